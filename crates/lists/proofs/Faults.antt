@@ -1,0 +1,82 @@
+-- Laws of the refusals 1 to 4 of a list (`specs/Faults.antt`): which one a list meets, from the tests that lead there, and what
+-- a list is that meets none.
+--     shape-1, shape-1-many, shape-2, shape-3, shape-stands      1, 2, 3, and none of them
+--     counted-2, counted-3, counted-stands                       the same, of n as worked out by a callee
+--     shaped                                                     a list that meets none of 1, 2, 3
+-- Assumes nothing.
+use Prim.Native.Nat.{ℕ, _*_, _%_, _/_, _≤_, _<_}
+use mathlib.Core.Bool.{Bool, true, false, not}
+use mathlib.Core.Path.{_≡_, refl, sym, ap, _∙_}
+use native.Mathlib.Omega.{arith}
+use lib.ListN.{length}
+use lib.Dec.{ltb, eqb}
+use borrow.Author.Tests.{lt-ltb, le-ltb, eq-eqb, ne-eqb, ltb-false, eqb-true}
+use Rattle.ranges.specs.Numbers.{pick, _or_}
+use Rattle.ranges.specs.Refusals.{none, refused, BadFields, BadLength, TooManyRules}
+use Rattle.ranges.specs.declared.refusal.Refusal.{Refusal}
+use Rattle.ranges.proofs.Numbers.{never}
+use Rattle.lists.specs.Rules.{Rules, fieldsOf, rulesIn}
+use Rattle.lists.specs.Faults.{shapeFault}
+use Rattle.lists.proofs.Rules.{Shaped, whole-length, length-whole}
+
+-- ---- 1, 2, 3
+module _ (R : Rules) where
+  pub shape-1 : fieldsOf R < 1 → shapeFault R ≡ refused BadFields
+  unfolding shapeFault
+  shape-1 few = rw (lt-ltb (fieldsOf R) 1 few)
+
+  pub shape-1-many : 1 ≤ fieldsOf R → 8 < fieldsOf R → shapeFault R ≡ refused BadFields
+  unfolding shapeFault
+  shape-1-many some many = rw (le-ltb (fieldsOf R) 1 some, lt-ltb 8 (fieldsOf R) many)
+
+module _ (R : Rules) (some : 1 ≤ fieldsOf R) (few : fieldsOf R ≤ 8) where
+  pub shape-2 : (rulesIn R * fieldsOf R * 2 ≡ length (R .numbers) → ⊥) → shapeFault R ≡ refused BadLength
+  unfolding shapeFault
+  shape-2 odd =
+      let left : length (R .numbers) % (fieldsOf R * 2) ≡ 0 → ⊥ = λ e. odd (sym (whole-length R e)) in
+      rw (le-ltb (fieldsOf R) 1 some, le-ltb 8 (fieldsOf R) few, ne-eqb (length (R .numbers) % (fieldsOf R * 2)) 0 left)
+
+module _ (R : Rules) (some : 1 ≤ fieldsOf R) (few : fieldsOf R ≤ 8) (whole : rulesIn R * fieldsOf R * 2 ≡ length (R .numbers)) where
+  -- past 1 and 2
+  at-3 : shapeFault R ≡ pick (ltb 1024 (rulesIn R)) (refused TooManyRules) none
+  unfolding shapeFault
+  at-3 =
+      rw
+      (le-ltb (fieldsOf R) 1 some, le-ltb 8 (fieldsOf R) few, eq-eqb (length (R .numbers) % (fieldsOf R * 2)) 0 (length-whole R whole))
+
+  pub shape-3 : 1024 < rulesIn R → shapeFault R ≡ refused TooManyRules
+  shape-3 many = rw (at-3, lt-ltb 1024 (rulesIn R) many)
+
+  pub shape-stands : rulesIn R ≤ 1024 → shapeFault R ≡ none
+  shape-stands few-rules = rw (at-3, le-ltb 1024 (rulesIn R) few-rules)
+
+-- the same, of n as worked out by a callee
+module _ (R : Rules) (m : ℕ) (is-n : m ≡ rulesIn R) (some : 1 ≤ fieldsOf R) (few : fieldsOf R ≤ 8) where
+  pub counted-2 : (m * fieldsOf R * 2 ≡ length (R .numbers) → ⊥) → shapeFault R ≡ refused BadLength
+  counted-2 odd = shape-2 R some few (λ e. odd (rw is-n e))
+
+  pub counted-3 : m * fieldsOf R * 2 ≡ length (R .numbers) → 1024 < m → shapeFault R ≡ refused TooManyRules
+  counted-3 whole many = shape-3 R some few (rw is-n at whole) (rw is-n at many)
+
+  pub counted-stands : m * fieldsOf R * 2 ≡ length (R .numbers) → m ≤ 1024 → shapeFault R ≡ none
+  counted-stands whole few-rules = shape-stands R some few (rw is-n at whole) (rw is-n at few-rules)
+
+-- a list that meets none of 1, 2, 3
+pub shaped : (R : Rules) → shapeFault R .number ≡ 0 → Shaped R
+unfolding shapeFault
+shaped R = go (ltb (fieldsOf R) 1) (ltb 8 (fieldsOf R)) (eqb (length (R .numbers) % (fieldsOf R * 2)) 0) (ltb 1024 (rulesIn R)) refl refl refl refl
+  where
+    go : (a b e g : Bool) → ltb (fieldsOf R) 1 ≡ a → ltb 8 (fieldsOf R) ≡ b → eqb (length (R .numbers) % (fieldsOf R * 2)) 0 ≡ e → ltb 1024 (rulesIn R) ≡ g
+        → (pick (a or b) (refused BadFields) (pick (not e) (refused BadLength) (pick g (refused TooManyRules) none))) .number ≡ 0
+        → Shaped R
+    go true b e g p q r s z = never (sym z)
+    go false true e g p q r s z = never (sym z)
+    go false false false g p q r s z = absurd (omega arith)
+    go false false true true p q r s z = absurd (omega arith)
+    go false false true false p q r s z =
+        record {
+          some-fields = ltb-false (fieldsOf R) 1 p;
+          few-fields = ltb-false 8 (fieldsOf R) q;
+          whole = whole-length R (eqb-true (length (R .numbers) % (fieldsOf R * 2)) 0 r);
+          few-rules = ltb-false 1024 (rulesIn R) s;
+        }

@@ -1,0 +1,66 @@
+-- Laws of where a rule's numbers stand (`specs/Rules.antt`), and what a list is whose shape stands.
+--     Shaped           d is 1 to 8, the list has 2d numbers a rule, and at most 1,024 rules
+--     rules-none, rules-halved      n as the code works it out
+--     whole-length, length-whole    the list has 2d numbers a rule, either way round
+--     cell-inside      of such a list, the low and the high of each field of each rule stand in it
+--     square-few       a product of two numbers of 16 bits is far below a word
+-- Assumes nothing.
+use Prim.Native.Nat.{ℕ, _+_, _*_, _/_, _%_, _^_, _≤_, _<_}
+use mathlib.Core.Path.{_≡_, sym, ap, _∙_}
+use native.Mathlib.Omega.{arith}
+use native.Mathlib.Nat.{mul-le-mul, mul-le-mul-right, div-add-mod', div-mul-le-self, div-div-eq-div-mul, div-zero, mul-assoc, mul-comm, mul-mod-left}
+use lib.ListN.{length}
+use Rattle.lists.specs.Rules.{Rules, fieldsOf, rulesIn, cellOf}
+
+-- a list whose shape stands
+pub record Shaped (R : Rules) : Type 0 where
+  pub some-fields : 1 ≤ fieldsOf R
+  pub few-fields : fieldsOf R ≤ 8
+  pub whole : length (R .numbers) ≡ rulesIn R * fieldsOf R * 2
+  pub few-rules : rulesIn R ≤ 1024
+
+-- a length that is a multiple of 2d is n * d * 2
+pub whole-length : (R : Rules) → length (R .numbers) % (fieldsOf R * 2) ≡ 0 → length (R .numbers) ≡ rulesIn R * fieldsOf R * 2
+unfolding rulesIn
+whole-length R none-left =
+    let split = div-add-mod' (length (R .numbers)) (fieldsOf R * 2) in
+    omega (arith, split, mul-assoc (length (R .numbers) / (fieldsOf R * 2)) (fieldsOf R) 2)
+
+-- the rules take no more than the list has
+pub rules-within : (R : Rules) → rulesIn R * fieldsOf R * 2 ≤ length (R .numbers)
+unfolding rulesIn
+rules-within R =
+    let n = length (R .numbers) / (fieldsOf R * 2) in
+    omega (arith, div-mul-le-self (length (R .numbers)) (fieldsOf R * 2), mul-assoc n (fieldsOf R) 2)
+
+pub within-by : (R : Rules) (m : ℕ) → m ≡ rulesIn R → m * fieldsOf R * 2 ≤ length (R .numbers)
+within-by R m e = rw e (rules-within R)
+
+-- a length of n * d * 2 is a multiple of 2d
+pub length-whole : (R : Rules) → rulesIn R * fieldsOf R * 2 ≡ length (R .numbers) → length (R .numbers) % (fieldsOf R * 2) ≡ 0
+length-whole R e =
+    ap (λ k. k % (fieldsOf R * 2)) (sym e ∙ mul-assoc (rulesIn R) (fieldsOf R) 2) ∙ mul-mod-left (rulesIn R) (fieldsOf R * 2)
+
+-- n as the code works it out
+pub rules-none : (R : Rules) → fieldsOf R ≡ 0 → rulesIn R ≡ 0
+unfolding rulesIn
+rules-none R e = ap (λ d. length (R .numbers) / (d * 2)) e ∙ div-zero (length (R .numbers))
+
+pub rules-halved : (R : Rules) → length (R .numbers) / 2 / fieldsOf R ≡ rulesIn R
+unfolding rulesIn
+rules-halved R = div-div-eq-div-mul (length (R .numbers)) 2 (fieldsOf R) ∙ ap (λ k. length (R .numbers) / k) (mul-comm 2 (fieldsOf R))
+
+-- the row of rule i ends before the row of rule n begins
+pub row-inside : (d i n f : ℕ) → i < n → f < d → i * d + f < n * d
+row-inside d i n f lt in-row = omega (arith, mul-le-mul-right d lt)
+
+pub cell-inside : (R : Rules) → Shaped R → (i f : ℕ) → i < rulesIn R → f < fieldsOf R → cellOf (fieldsOf R) i f + 1 < length (R .numbers)
+unfolding cellOf
+cell-inside R s i f lt in-row = omega (arith, row-inside (fieldsOf R) i (rulesIn R) f lt in-row, s .whole)
+
+-- a product of two numbers of 16 bits, whatever they are
+pub square-few : (d i : ℕ) → d < 2 ^ 16 → i < 2 ^ 16 → i * d ≤ 4294836225
+square-few d i few-d few-i =
+    let a : i ≤ 65535 = omega arith in
+    let b : d ≤ 65535 = omega arith in
+    mul-le-mul a b

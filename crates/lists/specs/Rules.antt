@@ -1,0 +1,49 @@
+-- 01, Lists and headers: a list of rules, and what stands where in it.
+-- The list and its shape go through all definitions as one record, `Rules`. Everything that speaks of a rule's
+-- range in a field goes through `lowOf` and `endsAt`, the first number past it; proofs use the laws of
+-- `proofs/Rules.antt`.
+-- Assumes nothing: these are definitions.
+use Prim.Native.Nat.{ℕ, _+_, _*_, _/_}
+use mathlib.Core.Bool.{Bool}
+use mathlib.Core.List.{List}
+use lib.ListN.{length, getD}
+use lib.Dec.{leb}
+use Rattle.ranges.specs.Sides.{endOf}
+use Rattle.lists.specs.declared.shape.Shape.{Shape}
+
+-- a list as lent, with the shape that gives its numbers their meaning
+pub record Rules : Type 0 where
+  pub shape : Shape
+  pub numbers : List ℕ
+
+abbrev pub listed : Shape → List ℕ → Rules
+listed s l = record { shape = s; numbers = l }
+
+-- d, the number of fields
+abbrev pub fieldsOf : Rules → ℕ
+fieldsOf R = R .shape .d
+
+-- n, the number of rules: 2d numbers a rule
+unfoldable pub rulesIn : Rules → ℕ
+rulesIn R = length (R .numbers) / (fieldsOf R * 2)
+
+-- where the low of field f of rule i stands, for rules of d fields; its high stands one further
+-- (in the bench list, d = 2, field 1 of rule 3 stands at 14 and 15)
+unfoldable pub cellOf : ℕ → ℕ → ℕ → ℕ
+cellOf d i f = (i * d + f) * 2
+
+-- the low end of rule i in field f
+unfoldable pub lowOf : Rules → ℕ → ℕ → ℕ
+lowOf R i f = getD (R .numbers) (cellOf (fieldsOf R) i f) 0
+
+-- its high end
+unfoldable pub highOf : Rules → ℕ → ℕ → ℕ
+highOf R i f = getD (R .numbers) (cellOf (fieldsOf R) i f + 1) 0
+
+-- the first number past its range
+abbrev pub endsAt : Rules → ℕ → ℕ → ℕ
+endsAt R i f = endOf (highOf R i f)
+
+-- the range holds no number: low > high
+abbrev pub isVoid : Rules → ℕ → ℕ → Bool
+isVoid R i f = leb (endsAt R i f) (lowOf R i f)

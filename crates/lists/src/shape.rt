@@ -1,0 +1,54 @@
+// The shape of a list: how many fields a rule has, where its numbers stand, and the refusals of a list whose
+// shape is wrong.
+use ranges::refusal::BAD_FIELDS;
+use ranges::refusal::BAD_LENGTH;
+use ranges::refusal::Refusal;
+use ranges::refusal::TOO_MANY_RULES;
+use ranges::refusal::refuse;
+ghost use mathlib.Core.Path.{_≡_};
+ghost use Rattle.lists.specs.Rules.{listed, rulesIn, cellOf};
+ghost use Rattle.lists.specs.Faults.{shapeFault};
+
+// What a list's numbers mean: the number of fields of a rule.
+pub struct Shape {
+    pub d: usize,
+}
+
+// Says where in a list the low of field f of rule i stands, for rules of d fields; its high stands one further.
+pub fn cell(d: u16, i: u16, f: u16) -> usize
+    ensures { λ r. ⌜ r ≡ cellOf d i f ⌝ }
+{
+    (i as usize * d as usize + f as usize) * 2
+}
+
+// Gives n, the number of rules of a list: its length over 2d, rounded down, and 0 where d is 0.
+pub fn rules_in(shape: Shape, list: &[u32]) -> usize
+    ensures { λ r. ⌜ r ≡ rulesIn (listed shape (now (list .entry))) ⌝ }
+{
+    let d = shape.d;
+    if d == 0 {
+        return 0;
+    }
+    list.len() / 2 / d
+}
+
+// Gives the first of the refusals 1, 2 and 3 that applies to a list's shape, or the one that refuses nothing.
+pub fn shape_fault(shape: Shape, list: &[u32]) -> Refusal
+    ensures { λ r. ⌜ r ≡ shapeFault (listed shape (now (list .entry))) ⌝ }
+{
+    let d = shape.d;
+    if d < 1 {
+        return refuse(BAD_FIELDS);
+    }
+    if 8 < d {
+        return refuse(BAD_FIELDS);
+    }
+    let n = rules_in(shape, list);
+    if n * d * 2 != list.len() {
+        return refuse(BAD_LENGTH);
+    }
+    if 1024 < n {
+        return refuse(TOO_MANY_RULES);
+    }
+    refuse(0)
+}

@@ -1,0 +1,182 @@
+-- Laws of what a test says of the numbers below n (`specs/Numbers.antt`). A loop that tests 0, 1, .. keeps "all
+-- below j passed", "t of those below j passed" or "none below j passed", and these laws take its step and its
+-- ways out.
+--     all-yes, all-at, all-no          every number below n passes; each then does; one that fails
+--     count-more, count-le             one number more; never more than n
+--     least-is, least-none             the least that passes; n where none does
+--     least-hit, least-under, least-le it passes; those under it fail; it is at most n
+--     greatest-is                      the greatest that passes
+--     tab-length, tab-at               the list of a function's values
+-- Assumes nothing.
+use Prim.Native.Nat.{ℕ, zero, suc, _+_, _≤_, _<_}
+use mathlib.Core.Bool.{Bool, true, false}
+use mathlib.Core.List.{List, [], _∷_, _++_}
+use mathlib.Core.Path.{_≡_, refl, sym, ap, _∙_, subst}
+use mathlib.Core.Logic.{⊎-elim}
+use native.Mathlib.Omega.{arith}
+use native.Mathlib.Nat.{eq-or-lt-of-le, le-of-suc-le-suc}
+use native.Mathlib.Numerals.{add-one}
+use borrow.Author.Tests.{lt-ltb, le-ltb, ltb-true, ltb-false}
+use lib.Dec.{ltb}
+use lib.ListN.{length, getD, length-append, List·getD-append}
+use lib.Seq.{getD-at}
+use Rattle.ranges.specs.Numbers.{pick, _and_, bit, all, count, least, greatest, tab}
+
+-- 0 is not 1: what `cc` proves where two constructors would be equal
+pub never {ℓ} : {A : Type ℓ} → _≡_ {A = ℕ} 0 1 → A
+never e = absurd (omega arith)
+
+-- ---- tests joined
+pub and-left : (s t : Bool) → s and t ≡ true → s ≡ true
+and-left true t e = refl
+and-left false t e = e
+
+pub and-right : (s t : Bool) → s and t ≡ true → t ≡ true
+and-right true t e = e
+and-right false t e = never (cc)
+
+pub and-both : (s t : Bool) → s ≡ true → t ≡ true → s and t ≡ true
+and-both s t p q = rw (p, q)
+
+-- a test that is true and false at once
+pub true-not-false : {t : Bool} → t ≡ true → t ≡ false → ⊥
+true-not-false {t} p q = never (cc)
+
+-- below suc n: below n, or n itself
+below-suc : (k n : ℕ) → k < suc n → (P : ℕ → Type 0) → (k < n → P k) → P n → P k
+below-suc k n lt P under here =
+    ⊎-elim (λ e. subst P (sym e) here) (λ l. under l) (eq-or-lt-of-le (le-of-suc-le-suc lt))
+
+-- ---- all
+module _ (P : ℕ → Bool) where
+  pub all-yes : (n : ℕ) → ((k : ℕ) → k < n → P k ≡ true) → all n P ≡ true
+  unfolding all
+  all-yes zero h = refl
+  all-yes (suc n) h =
+      let under : (k : ℕ) → k < n → P k ≡ true = λ k l. h k (omega arith) in
+      let here : P n ≡ true = h n (omega arith) in
+      and-both (all n P) (P n) (all-yes n under) here
+
+  pub all-at : (n : ℕ) → all n P ≡ true → (k : ℕ) → k < n → P k ≡ true
+  unfolding all
+  all-at zero e k lt = absurd (omega arith)
+  all-at (suc n) e k lt =
+      below-suc k n lt (λ j. P j ≡ true) (all-at n (and-left (all n P) (P n) e) k) (and-right (all n P) (P n) e)
+
+  pub all-no : (n k : ℕ) → k < n → P k ≡ false → all n P ≡ false
+  all-no n k lt e = go (all n P) refl
+    where
+      go : (t : Bool) → all n P ≡ t → all n P ≡ false
+      go true q = absurd (true-not-false (all-at n q k lt) e)
+      go false q = q
+
+-- ---- count
+module _ (P : ℕ → Bool) where
+  pub count-more : (n : ℕ) → count (n + 1) P ≡ count n P + bit (P n)
+  unfolding count
+  count-more n = rw add-one
+
+  bit-le : (t : Bool) → bit t ≤ 1
+  bit-le true = omega arith
+  bit-le false = omega arith
+
+  pub count-le : (n : ℕ) → count n P ≤ n
+  unfolding count
+  count-le zero = omega arith
+  count-le (suc n) = omega (arith, count-le n, bit-le (P n))
+
+-- ---- least
+module _ (P : ℕ → Bool) where
+  pub least-none : (n : ℕ) → ((k : ℕ) → k < n → P k ≡ false) → least n P ≡ n
+  unfolding least
+  least-none zero h = refl
+  least-none (suc n) h =
+      let under : (k : ℕ) → k < n → P k ≡ false = λ k l. h k (omega arith) in
+      let here : P n ≡ false = h n (omega arith) in
+      let at-n = least-none n under in
+      let over : n ≤ least n P = omega arith in
+      rw (le-ltb (least n P) n over, here)
+
+  -- one number more, where one under it passed
+  least-kept : (n j : ℕ) → j < n → least n P ≡ j → least (suc n) P ≡ j
+  unfolding least
+  least-kept n j lt is =
+      let under : least n P < n = omega arith in
+      rw (lt-ltb (least n P) n under) is
+
+  -- one number more, where none under it passed and it passes
+  least-new : (n j : ℕ) → j ≡ n → P j ≡ true → least n P ≡ n → least (suc n) P ≡ j
+  unfolding least
+  least-new n j e passes none =
+      let over : n ≤ least n P = omega arith in
+      let here : P n ≡ true = subst (λ m. P m ≡ true) e passes in
+      rw (le-ltb (least n P) n over, here) (sym e)
+
+  pub least-is : (n j : ℕ) → j < n → P j ≡ true → ((k : ℕ) → k < j → P k ≡ false) → least n P ≡ j
+  least-is zero j lt passes fail = absurd (omega arith)
+  least-is (suc n) j lt passes fail =
+      ⊎-elim
+      (λ e. least-new n j e passes (least-none n (λ k l. fail k (omega arith))))
+      (λ l. least-kept n j l (least-is n j l passes fail))
+      (eq-or-lt-of-le (le-of-suc-le-suc lt))
+
+  pub least-le : (n : ℕ) → least n P ≤ n
+  unfolding least
+  least-le zero = omega arith
+  least-le (suc n) = go (ltb (least n P) n) (P n) (least-le n)
+    where
+      go : (s t : Bool) → least n P ≤ n → pick s (least n P) (pick t n (suc n)) ≤ suc n
+      go true t le = omega arith
+      go false true le = omega arith
+      go false false le = omega arith
+
+  -- what the least below n is, step by step: it passes if it is below n, and those under it fail
+  step : (n : ℕ) → (least n P < n → P (least n P) ≡ true) → ((k : ℕ) → k < least n P → P k ≡ false) → least n P ≤ n
+      → (s t : Bool) → ltb (least n P) n ≡ s → P n ≡ t
+      → (pick s (least n P) (pick t n (suc n)) < suc n → P (pick s (least n P) (pick t n (suc n))) ≡ true)
+      × ((k : ℕ) → k < pick s (least n P) (pick t n (suc n)) → P k ≡ false)
+  step n hit under le true t es et = (λ l. hit (ltb-true (least n P) n es), under)
+  step n hit under le false true es et =
+      let is-n : n ≤ least n P = ltb-false (least n P) n es in
+      (λ l. et, λ k l. under k (omega arith))
+  step n hit under le false false es et =
+      let is-n : n ≤ least n P = ltb-false (least n P) n es in
+      (λ l. absurd (omega arith), λ k l. below-suc k n l (λ j. P j ≡ false) (λ m. under k (omega arith)) et)
+
+  holds : (n : ℕ) → (least n P < n → P (least n P) ≡ true) × ((k : ℕ) → k < least n P → P k ≡ false)
+  unfolding least
+  holds zero = (λ l. absurd (omega arith), λ k l. absurd (omega arith))
+  holds (suc n) = step n (holds n .0) (holds n .1) (least-le n) (ltb (least n P) n) (P n) refl refl
+
+  pub least-hit : (n : ℕ) → least n P < n → P (least n P) ≡ true
+  least-hit n = holds n .0
+
+  pub least-under : (n k : ℕ) → k < least n P → P k ≡ false
+  least-under n k = holds n .1 k
+
+-- ---- greatest
+module _ (P : ℕ → Bool) where
+  pub greatest-is : (n j : ℕ) → j < n → P j ≡ true → ((k : ℕ) → j < k → k < n → P k ≡ false) → greatest n P ≡ j
+  unfolding greatest
+  greatest-is zero j lt passes fail = absurd (omega arith)
+  greatest-is (suc n) j lt passes fail =
+      ⊎-elim
+      (λ e. rw (subst (λ m. P m ≡ true) e passes) (sym e))
+      (λ l. rw (fail n l (omega arith)) (greatest-is n j l passes (λ k a b. fail k a (omega arith))))
+      (eq-or-lt-of-le (le-of-suc-le-suc lt))
+
+-- ---- tab
+module _ (f : ℕ → ℕ) where
+  pub tab-length : (n : ℕ) → length (tab n f) ≡ n
+  unfolding tab
+  tab-length zero = refl
+  tab-length (suc n) = rw (length-append, tab-length n, add-one)
+
+  pub tab-at : (n k : ℕ) → k < n → getD (tab n f) k 0 ≡ f k
+  unfolding tab
+  tab-at zero k lt = absurd (omega arith)
+  tab-at (suc n) k lt =
+      ⊎-elim
+      (λ e. getD-at (tab n f) (f n) [] 0 k (tab-length n ∙ sym e) ∙ ap f (sym e))
+      (λ l. let inside : k < length (tab n f) = rw (tab-length n) l in List·getD-append (tab n f) (f n ∷ []) 0 k inside ∙ tab-at n k l)
+      (eq-or-lt-of-le (le-of-suc-le-suc lt))

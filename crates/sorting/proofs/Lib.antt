@@ -1,0 +1,5 @@
+-- The laws that proofs of this crate and above cite:
+-- Offsets: every part of a table lies within it.
+-- Opening: which refusal an opening meets, and what a table is that opens.
+pub mod Offsets
+pub mod Opening

@@ -1,0 +1,164 @@
+-- Laws of the opening (`specs/Opening.antt`): which outcome each test gives, and what a table is that opens.
+--     head-read, start-read                                          what is read of a table of the right length
+--     opening-n, opening-d, opening-b, first-wrong, last-read         the tests in their order
+--     open-shape, open-length, open-broken, open-stands              1 to 3, 5, 6 for the opening, none of them
+--     by-shape, by-length, by-broken, by-stands                      the same, as the code works it out
+--     Opened, opened                                                 a list and a table that meet none of 1, 2, 3, 5 and the opening's 6
+-- Assumes nothing.
+use Prim.Native.Nat.{ℕ, _≤_, _<_}
+use mathlib.Core.Bool.{Bool, true, false}
+use mathlib.Core.List.{List}
+use mathlib.Core.Path.{_≡_, refl, sym, ap, _∙_}
+use native.Mathlib.Omega.{arith}
+use lib.ListN.{length, getD}
+use lib.Dec.{leb, eqb}
+use borrow.Author.Tests.{eq-eqb, ne-eqb, le-leb, lt-leb, eqb-true, leb-true}
+use Rattle.ranges.specs.Numbers.{pick, _and_}
+use Rattle.ranges.specs.Refusals.{none, refused, orElse, stands, BadTableLength, BrokenTable}
+use Rattle.ranges.specs.declared.refusal.Refusal.{Refusal}
+use Rattle.ranges.proofs.Numbers.{true-not-false, and-left, and-right}
+use Rattle.lists.specs.Rules.{Rules, fieldsOf, rulesIn}
+use Rattle.lists.specs.Faults.{shapeFault}
+use Rattle.lists.proofs.Rules.{Shaped}
+use Rattle.lists.proofs.Faults.{shaped}
+use Rattle.sorting.specs.Layout.{View, view, TableFor, tableLength, startAt}
+use Rattle.sorting.proofs.Offsets.{opening-inside, start-inside}
+use Rattle.sorting.specs.Opening.{opening, viewOf, tableFault, openFault}
+
+-- ---- what is read of a table of the right length
+module _ {n d : ℕ} {T : List ℕ} (sized : TableFor n d T) where
+  -- n, d, b and the first start stand in it
+  pub head-read : (k : ℕ) → k ≤ 3 → k < length T
+  head-read k le = omega (arith, opening-inside n d, sized .long)
+
+  -- so does each start, where a callee said where
+  pub start-read : {q r : ℕ} → r ≡ startAt n q → q ≤ n → r < length T
+  start-read {q} {r} e le = omega (arith, start-inside n d q le, sized .long, e)
+
+-- ---- the tests in their order
+module _ (n d : ℕ) (v : View) where
+  pub opening-n : (v .n ≡ n → ⊥) → opening n d v ≡ false
+  unfolding opening
+  opening-n ne = rw (ne-eqb (v .n) n ne)
+
+  pub opening-d : v .n ≡ n → (v .d ≡ d → ⊥) → opening n d v ≡ false
+  unfolding opening
+  opening-d is-n ne = rw (eq-eqb (v .n) n is-n, ne-eqb (v .d) d ne)
+
+module _ (n d : ℕ) (v : View) (is-n : v .n ≡ n) (is-d : v .d ≡ d) where
+  pub opening-b : n < v .b → opening n d v ≡ false
+  unfolding opening
+  opening-b many = rw (eq-eqb (v .n) n is-n, eq-eqb (v .d) d is-d, lt-leb (v .b) n many)
+
+  pub opening-first : v .b ≤ n → (v .start 0 ≡ 0 → ⊥) → opening n d v ≡ false
+  unfolding opening
+  opening-first few ne = rw (eq-eqb (v .n) n is-n, eq-eqb (v .d) d is-d, le-leb (v .b) n few, ne-eqb (v .start 0) 0 ne)
+
+  pub opening-last : v .b ≤ n → v .start 0 ≡ 0 → opening n d v ≡ eqb (v .start (v .b)) n
+  unfolding opening
+  opening-last few first = rw (eq-eqb (v .n) n is-n, eq-eqb (v .d) d is-d, le-leb (v .b) n few, eq-eqb (v .start 0) 0 first)
+
+-- the same of a table's view, where a callee said at which place a start was read
+module _ (n d : ℕ) (T : List ℕ) (is-n : view n d T .n ≡ n) (is-d : view n d T .d ≡ d) (few : view n d T .b ≤ n) where
+  pub first-wrong : (r : ℕ) → r ≡ startAt n 0 → (getD T r 0 ≡ 0 → ⊥) → opening n d (view n d T) ≡ false
+  first-wrong r at ne = opening-first n d (view n d T) is-n is-d few (λ e. ne (ap (λ k. getD T k 0) at ∙ e))
+
+  pub last-read : (r s : ℕ) → r ≡ startAt n 0 → getD T r 0 ≡ 0 → s ≡ startAt n (view n d T .b) → opening n d (view n d T) ≡ eqb (getD T s 0) n
+  last-read r s at first at-last =
+      opening-last n d (view n d T) is-n is-d few (ap (λ k. getD T k 0) (sym at) ∙ first) ∙ ap (λ k. eqb (getD T k 0) n) (sym at-last)
+
+-- ---- what opens
+-- a list and a table that meet none of 1, 2, 3, 5 and the opening's 6
+pub record Opened (R : Rules) (T : List ℕ) : Type 0 where
+  pub shape-stands : Shaped R
+  pub sized : TableFor (rulesIn R) (fieldsOf R) T
+  pub rules : viewOf R T .n ≡ rulesIn R
+  pub fields : viewOf R T .d ≡ fieldsOf R
+  pub few-parts : viewOf R T .b ≤ rulesIn R
+  pub first-start : viewOf R T .start 0 ≡ 0
+  pub last-start : viewOf R T .start (viewOf R T .b) ≡ rulesIn R
+
+module _ (R : Rules) (T : List ℕ) where
+  pub open-shape : (shapeFault R .number ≡ 0 → ⊥) → openFault R T ≡ shapeFault R
+  unfolding openFault
+  open-shape ne = rw (ne-eqb (shapeFault R .number) 0 ne)
+
+  pub open-length : shapeFault R .number ≡ 0 → (length T ≡ tableLength (rulesIn R) (fieldsOf R) → ⊥) → openFault R T ≡ refused BadTableLength
+  unfolding openFault
+  open-length z ne = rw (eq-eqb (shapeFault R .number) 0 z, ne-eqb (length T) (tableLength (rulesIn R) (fieldsOf R)) ne)
+
+  pub open-broken : shapeFault R .number ≡ 0 → length T ≡ tableLength (rulesIn R) (fieldsOf R) → opening (rulesIn R) (fieldsOf R) (viewOf R T) ≡ false
+      → openFault R T ≡ refused BrokenTable
+  unfolding openFault
+  open-broken z long shut = rw (eq-eqb (shapeFault R .number) 0 z, eq-eqb (length T) (tableLength (rulesIn R) (fieldsOf R)) long, shut)
+
+  pub open-stands : shapeFault R .number ≡ 0 → length T ≡ tableLength (rulesIn R) (fieldsOf R) → opening (rulesIn R) (fieldsOf R) (viewOf R T) ≡ true
+      → openFault R T ≡ none
+  unfolding openFault
+  open-stands z long fine = rw (eq-eqb (shapeFault R .number) 0 z, eq-eqb (length T) (tableLength (rulesIn R) (fieldsOf R)) long, fine)
+
+-- what an opening says, test by test
+opened-view : (R : Rules) (T : List ℕ) → Shaped R → length T ≡ tableLength (rulesIn R) (fieldsOf R)
+    → opening (rulesIn R) (fieldsOf R) (viewOf R T) ≡ true → Opened R T
+unfolding opening
+opened-view R T s long fine =
+    let v = viewOf R T in
+    let is-n = eqb (v .n) (rulesIn R) in
+    let is-d = eqb (v .d) (fieldsOf R) in
+    let few = leb (v .b) (rulesIn R) in
+    let first = eqb (v .start 0) 0 in
+    let last = eqb (v .start (v .b)) (rulesIn R) in
+    let at-d = and-right is-n (is-d and few and first and last) fine in
+    let at-few = and-right is-d (few and first and last) at-d in
+    let at-first = and-right few (first and last) at-few in
+    record {
+      shape-stands = s;
+      sized = record { long = long };
+      rules = eqb-true (v .n) (rulesIn R) (and-left is-n (is-d and few and first and last) fine);
+      fields = eqb-true (v .d) (fieldsOf R) (and-left is-d (few and first and last) at-d);
+      few-parts = leb-true (v .b) (rulesIn R) (and-left few (first and last) at-few);
+      first-start = eqb-true (v .start 0) 0 (and-left first last at-first);
+      last-start = eqb-true (v .start (v .b)) (rulesIn R) (and-right first last at-first);
+    }
+
+pub opened : (R : Rules) (T : List ℕ) → openFault R T .number ≡ 0 → Opened R T
+unfolding openFault
+opened R T = go (eqb (shapeFault R .number) 0) refl (eqb (length T) (tableLength (rulesIn R) (fieldsOf R))) refl (opening (rulesIn R) (fieldsOf R) (viewOf R T)) refl
+  where
+    go : (a : Bool) → stands (shapeFault R) ≡ a → (e : Bool) → eqb (length T) (tableLength (rulesIn R) (fieldsOf R)) ≡ e
+        → (g : Bool) → opening (rulesIn R) (fieldsOf R) (viewOf R T) ≡ g
+        → (pick a (orElse (pick e none (refused BadTableLength)) (pick g none (refused BrokenTable))) (shapeFault R)) .number ≡ 0
+        → Opened R T
+    go false p e q g r z = absurd (true-not-false (eq-eqb (shapeFault R .number) 0 z) p)
+    go true p false q g r z = absurd (omega arith)
+    go true p true q false r z = absurd (omega arith)
+    go true p true q true r z =
+        opened-view R T (shaped R (eqb-true (shapeFault R .number) 0 p)) (eqb-true (length T) (tableLength (rulesIn R) (fieldsOf R)) q) r
+
+-- ---- as the code works it out: x is the shape's refusal, and m the number of rules
+module _ (R : Rules) (x : Refusal) (is-x : x ≡ shapeFault R) where
+  pub by-shape : (T : List ℕ) → (x .number ≡ 0 → ⊥) → x ≡ openFault R T
+  by-shape T ne = is-x ∙ sym (open-shape R T (λ z. ne (rw is-x z)))
+
+  module _ (z : x .number ≡ 0) where
+    pub by-shaped : Shaped R
+    by-shaped = shaped R (rw is-x at z)
+
+    module _ (m : ℕ) (is-m : m ≡ rulesIn R) where
+      pub by-few : m ≤ 1024
+      by-few = omega (arith, by-shaped .few-rules, is-m)
+
+      -- the table's length as worked out is the right one
+      k-is : (k : ℕ) → k ≡ tableLength m (fieldsOf R) → k ≡ tableLength (rulesIn R) (fieldsOf R)
+      k-is k is-k = rw is-m at is-k
+
+      pub by-length : (T : List ℕ) (k : ℕ) → k ≡ tableLength m (fieldsOf R) → (length T ≡ k → ⊥) → openFault R T ≡ refused BadTableLength
+      by-length T k is-k ne = open-length R T (rw is-x at z) (λ e. ne (e ∙ sym (k-is k is-k)))
+
+      pub by-broken : (T : List ℕ) (k : ℕ) → k ≡ tableLength m (fieldsOf R) → length T ≡ k → opening m (fieldsOf R) (view m (fieldsOf R) T) ≡ false
+          → openFault R T ≡ refused BrokenTable
+      by-broken T k is-k e shut = open-broken R T (rw is-x at z) (e ∙ k-is k is-k) (rw is-m at shut)
+
+      pub by-stands : (T : List ℕ) (k : ℕ) → k ≡ tableLength m (fieldsOf R) → length T ≡ k → opening m (fieldsOf R) (view m (fieldsOf R) T) ≡ true
+          → openFault R T ≡ none
+      by-stands T k is-k e fine = open-stands R T (rw is-x at z) (e ∙ k-is k is-k) (rw is-m at fine)

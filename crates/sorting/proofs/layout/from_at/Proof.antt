@@ -1,0 +1,31 @@
+-- `sorting::layout::from_at` meets its contract: of numbers of 16 bits, the product stays far below a word.
+-- Assumes nothing.
+use borrow.Author.Needs.{needs}
+use mathlib.Core.Path.{refl}
+use native.Mathlib.Omega.{arith}
+use Rattle.lists.proofs.Rules.{square-few}
+use Rattle.sorting.specs.Layout.{fromAt}
+use Rattle.sorting.proofs.layout.from_at.Statement.{statement}
+use Rattle.sorting.proofs.layout.from_at.Tie as tie
+
+mul-result : tie.Need-mul-result
+mul-result c = search needs
+
+add-result : tie.Need-add-result
+add-result c = search needs
+
+mul-result-2 : tie.Need-mul-result-2
+mul-result-2 c = omega (arith, square-few (c .args .d) (c .args .p) (c .fits .d .fits) (c .fits .p .fits))
+
+add-result-2 : tie.Need-add-result-2
+add-result-2 c = omega (arith, square-few (c .args .d) (c .args .p) (c .fits .d .fits) (c .fits .p .fits))
+
+add-result-3 : tie.Need-add-result-3
+add-result-3 c = omega (arith, square-few (c .args .d) (c .args .p) (c .fits .d .fits) (c .fits .p .fits))
+
+returns : tie.Need-returns
+unfolding fromAt
+returns c = refl
+
+pub from-at-spec : {M : Type 1} → statement M
+from-at-spec = tie.close (tie.spec mul-result add-result mul-result-2 add-result-2 add-result-3 returns)

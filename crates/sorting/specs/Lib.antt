@@ -1,0 +1,6 @@
+pub mod Order
+pub mod FirstFit
+pub mod Layout
+pub mod Table
+pub mod Opening
+pub mod Promise
