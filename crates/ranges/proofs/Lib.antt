@@ -1,5 +1,9 @@
 -- The laws that proofs of this crate and above cite:
 -- Numbers: of `all`, `count`, `least`, `greatest` and `tab`.
+-- Widths: what shifts and masks do, once for every width.
 -- Sides: of the first number past a range and of the range test.
+-- Prefixes: which answer a prefix has.
 pub mod Numbers
+pub mod Widths
 pub mod Sides
+pub mod Prefixes
