@@ -3,7 +3,9 @@
 -- Widths: what shifts and masks do, once for every width.
 -- Sides: of the first number past a range and of the range test.
 -- Prefixes: which answer a prefix has.
+-- Blocks: the largest aligned block, and the search by doubling.
 pub mod Numbers
 pub mod Widths
 pub mod Sides
 pub mod Prefixes
+pub mod Blocks
