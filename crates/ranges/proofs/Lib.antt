@@ -4,8 +4,12 @@
 -- Sides: of the first number past a range and of the range test.
 -- Prefixes: which answer a prefix has.
 -- Blocks: the largest aligned block, and the search by doubling.
+-- Expansion: the prefixes of a range, one law for an empty one and one for its first block.
+-- Passes: counting and writing the prefixes.
 pub mod Numbers
 pub mod Widths
 pub mod Sides
 pub mod Prefixes
 pub mod Blocks
+pub mod Expansion
+pub mod Passes

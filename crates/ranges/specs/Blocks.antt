@@ -29,7 +29,7 @@ pub record Prefix : Type 0 where
   pub length : ℕ
 
 -- the prefixes of low to high, from the low end, the largest block first; k bounds how many
-prefixesFrom : ℕ → ℕ → ℕ → ℕ → List Prefix
+unfoldable pub prefixesFrom : ℕ → ℕ → ℕ → ℕ → List Prefix
 prefixesFrom zero w low high = []
 prefixesFrom (suc k) w low high =
     let all : List Prefix = record { value = low; length = w - blockOf w low high } ∷ prefixesFrom k w (low + 2 ^ blockOf w low high) high in
@@ -38,7 +38,6 @@ prefixesFrom (suc k) w low high =
 -- the prefixes of low to high: no more than it has numbers, since each block has one at least
 -- (width 5, 16 to 23: (16, 2))
 unfoldable pub prefixesOf : ℕ → ℕ → ℕ → List Prefix
-unfolding prefixesFrom
 prefixesOf w low high = prefixesFrom (endOf high - low) w low high
 
 -- 11: the range has low > high, or high needs more than width bits

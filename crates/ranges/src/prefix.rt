@@ -15,7 +15,7 @@ pub enum Bounds {
 
 // Gives the number whose k lowest bits are set, for k of 0 to 32.
 // A shift by 32 has no meaning, so k = 32, the prefix of length 0 at width 32, is a case of its own.
-fn low_ones(k: u32) -> u32
+pub(crate) fn low_ones(k: u32) -> u32
     requires { ⌜ k ≤ 32 ⌝ }
     ensures { λ r. ⌜ r ≡ 2 ^ k - 1 ⌝ }
 {
