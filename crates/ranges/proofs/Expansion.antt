@@ -47,7 +47,7 @@ module _ (w high : ℕ) where
       go (leb (endOf high) low) refl (from-enough j k (nextOf w low high) (omega (arith, pow-pos (blockOf w low high))) (omega (arith, pow-pos (blockOf w low high))))
     where
       go : (b : Bool) → leb (endOf high) low ≡ b → prefixesFrom j w (nextOf w low high) high ≡ prefixesFrom k w (nextOf w low high) high
-        → prefixesFrom (suc j) w low high ≡ prefixesFrom (suc k) w low high
+          → prefixesFrom (suc j) w low high ≡ prefixesFrom (suc k) w low high
       go true e rest =
           let over : endOf high ≤ low = leb-true (endOf high) low e in
           from-done (suc j) low over ∙ sym (from-done (suc k) low over)

@@ -6,6 +6,7 @@
 -- Blocks: the largest aligned block, and the search by doubling.
 -- Expansion: the prefixes of a range, one law for an empty one and one for its first block.
 -- Passes: counting and writing the prefixes.
+-- RangeFaults: which refusal a range meets, and the whole answer.
 pub mod Numbers
 pub mod Widths
 pub mod Sides
@@ -13,3 +14,4 @@ pub mod Prefixes
 pub mod Blocks
 pub mod Expansion
 pub mod Passes
+pub mod RangeFaults

@@ -172,7 +172,7 @@ module _ (P : ℕ → Bool) where
   greatest-holds (suc n) k lt passes = go (P n) refl (λ l. greatest-holds n k l passes)
     where
       go : (t : Bool) → P n ≡ t → (k < n → (P (greatest n P) ≡ true) × (k ≤ greatest n P) × (greatest n P < n))
-        → (P (pick t n (greatest n P)) ≡ true) × (k ≤ pick t n (greatest n P)) × (pick t n (greatest n P) < suc n)
+          → (P (pick t n (greatest n P)) ≡ true) × (k ≤ pick t n (greatest n P)) × (pick t n (greatest n P) < suc n)
       go true e under = (e, omega arith, omega arith)
       go false e under =
           ⊎-elim

@@ -53,7 +53,7 @@ module _ {w low high at count s : ℕ} (l : Left w low high at count) (le : at �
       record {
         from-low = omega (arith, l .from-low, pow-pos (blockOf w at high), is-s);
         to-end = subst (λ k. k ≤ endOf high) (sym next-is) (block-at w at high within .1);
-        sum = omega (arith, one-less, l .sum)
+        sum = omega (arith, one-less, l .sum);
       }
 
 pub left-end : {w low high at count : ℕ} → Left w low high at count → high < at → count ≡ length (prefixesOf w low high)
@@ -137,13 +137,13 @@ module _ {w low high at k : ℕ} {run₀ run : List ℕ} (g : Written w low high
           to-end = subst (λ j. j ≤ endOf high) (sym next) (block-at w at high (within-high high at le) .1);
           so-far = omega (arith, g .so-far, length-append (g .done) (p ∷ []));
           join = append-assoc (g .done) (p ∷ []) (prefixesOf w (at + s) high)
-          ∙ ap (λ j. g .done ++ p ∷ prefixesOf w j high) next
-          ∙ ap (λ ps. g .done ++ ps) (sym (prefixes-more w at high (within-high high at le)))
-          ∙ g .join;
+              ∙ ap (λ j. g .done ++ p ∷ prefixesOf w j high) next
+              ∙ ap (λ ps. g .done ++ ps) (sym (prefixes-more w at high (within-high high at le)))
+              ∙ g .join;
           now-is = ap (λ j. set (set run k at) (k + 1) (w - j)) is-t
-          ∙ ap (λ xs. set (set xs k at) (k + 1) (p .length)) (g .now-is)
-          ∙ ap (λ j. set (set (written (g .done) run₀) j at) (j + 1) (p .length)) (g .so-far)
-          ∙ written-pair (g .done) p run₀ here
+              ∙ ap (λ xs. set (set xs k at) (k + 1) (p .length)) (g .now-is)
+              ∙ ap (λ j. set (set (written (g .done) run₀) j at) (j + 1) (p .length)) (g .so-far)
+              ∙ written-pair (g .done) p run₀ here;
         }
 
 pub written-end : {w low high at k : ℕ} {run₀ run : List ℕ} → Written w low high at k run₀ run → high < at → run ≡ written (prefixesOf w low high) run₀

@@ -1,54 +1,61 @@
+-- `ranges::expand::range_fault` meets its contract: at each way out the tests that led there give the law of that refusal.
+-- Assumes nothing.
 use borrow.Author.Needs.{needs}
+use mathlib.Core.Path.{sym, _∙_}
+use Rattle.ranges.proofs.Prefixes.{past-ones, within-ones}
+use Rattle.ranges.proofs.RangeFaults.{range-9-few, range-9-many, range-11-order, range-11-high, range-stands}
 use Rattle.ranges.proofs.expand.range_fault.Statement.{statement}
 use Rattle.ranges.proofs.expand.range_fault.Tie as tie
-use Rattle.ranges.proofs.expand.range_fault.Reads as reads
-use Rattle.ranges.proofs.expand.range_fault.Lts as lts
-use Rattle.ranges.proofs.prefix.low_ones.Reads as low-ones-reads
-use Rattle.ranges.proofs.refusal.refuse.Reads as refuse-reads
 
--- src/expand.rt:74:9
 refuse-requires : tie.Need-refuse-requires
 refuse-requires c κs = search needs
 
--- src/expand.rt:74:9
+-- 9: no bit
 returns : tie.Need-returns
-returns c = ?
+returns c = c .refuse .ensures ∙ sym (range-9-few _ _ _ (c .before .if1 .taken))
 
--- src/expand.rt:77:9
 refuse-requires-2 : tie.Need-refuse-requires-2
 refuse-requires-2 c κs = search needs
 
--- src/expand.rt:77:9
+-- 9: more than 32 bits
 returns-2 : tie.Need-returns-2
-returns-2 c = ?
+returns-2 c = c .refuse2 .ensures ∙ sym (range-9-many _ _ _ (c .before .before .if1 .left) (c .before .if2 .taken))
 
--- src/expand.rt:80:9
 refuse-requires-3 : tie.Need-refuse-requires-3
 refuse-requires-3 c κs = search needs
 
--- src/expand.rt:80:9
+-- 11: low > high
 returns-3 : tie.Need-returns-3
-returns-3 c = ?
+returns-3 c =
+    let t = c .before in
+    c .refuse3 .ensures ∙ sym (range-11-order _ _ _ (t .before .before .if1 .left) (t .before .if2 .left) (t .if3 .taken))
 
--- src/expand.rt:82:8
 low-ones-requires : tie.Need-low-ones-requires
 low-ones-requires c κs = search needs
 
--- src/expand.rt:83:9
 refuse-requires-4 : tie.Need-refuse-requires-4
 refuse-requires-4 c κs = search needs
 
--- src/expand.rt:83:9
+-- 11: high needs more bits
 returns-4 : tie.Need-returns-4
-returns-4 c = ?
+returns-4 c =
+    let t = c .before in
+    let all = t .before in
+    let s = all .before in
+    c .refuse4 .ensures
+    ∙ sym (range-11-high _ _ _ (s .before .before .if1 .left) (s .before .if2 .left) (s .if3 .left) (past-ones _ _ _ (all .low-ones .ensures) (t .if4 .taken)))
 
--- src/expand.rt:85:5
 refuse-requires-5 : tie.Need-refuse-requires-5
 refuse-requires-5 c κs = search needs
 
--- src/expand.rt:70:1
+-- neither
 returns-5 : tie.Need-returns-5
-returns-5 c = ?
+returns-5 c =
+    let t = c .before in
+    let all = t .before in
+    let s = all .before in
+    c .refuse5 .ensures
+    ∙ sym (range-stands _ _ _ (s .before .before .if1 .left) (s .before .if2 .left) (s .if3 .left) (within-ones _ _ _ (all .low-ones .ensures) (t .if4 .left)))
 
 pub range-fault-spec : {M : Type 1} → statement M
 range-fault-spec =
