@@ -7,6 +7,7 @@
 -- Expansion: the prefixes of a range, one law for an empty one and one for its first block.
 -- Passes: counting and writing the prefixes.
 -- RangeFaults: which refusal a range meets, and the whole answer.
+-- Cover: what the prefixes of a range are: each number in exactly one, each block the largest.
 pub mod Numbers
 pub mod Widths
 pub mod Sides
@@ -15,3 +16,4 @@ pub mod Blocks
 pub mod Expansion
 pub mod Passes
 pub mod RangeFaults
+pub mod Cover
