@@ -3,7 +3,9 @@
 -- Opening: which refusal an opening meets, and what a table is that opens.
 -- Sound: a list with low ≤ high everywhere.
 -- Standings: how two ranges and two rules stand to each other.
+-- Counting: how many numbers below n pass a test.
 pub mod Offsets
 pub mod Opening
 pub mod Sound
 pub mod Standings
+pub mod Counting
