@@ -9,7 +9,7 @@
 -- Assumes nothing.
 use Prim.Native.Nat.{ℕ, zero, suc, _+_, _-_, _≤_, _<_}
 use mathlib.Core.Bool.{Bool, true, false}
-use mathlib.Core.Path.{_≡_, refl, sym, ap, _∙_, subst}
+use mathlib.Core.Path.{_≡_, refl, sym, ap, _∙_}
 use mathlib.Core.Logic.{⊎-elim}
 use native.Mathlib.Omega.{arith}
 use native.Mathlib.Nat.{eq-or-lt-of-le, le-of-suc-le-suc}
@@ -53,16 +53,16 @@ module _ (P Q : ℕ → Bool) where
   unfolding count
   count-strict zero j lt h fails passes = absurd (omega arith)
   count-strict (suc n) j lt h fails passes =
-      ⊎-elim
-      (λ e.
-      let under : count n P ≤ count n Q = count-mono n (λ k l. h k (omega arith)) in
-      let p : P n ≡ false = subst (λ m. P m ≡ false) e fails in
-      let q : Q n ≡ true = subst (λ m. Q m ≡ true) e passes in
-      rw (p, q) (omega arith))
-      (λ l.
-      let under : count n P < count n Q = count-strict n j l (λ k l. h k (omega arith)) fails passes in
-      omega (arith, bit-mono (P n) (Q n) (h n (omega arith))))
-      (eq-or-lt-of-le (le-of-suc-le-suc lt))
+      ⊎-elim here (λ l. more (count-strict n j l (λ k l. h k (omega arith)) fails passes)) (eq-or-lt-of-le (le-of-suc-le-suc lt))
+    where
+      -- j is the number that is added
+      here : j ≡ n → count n P + bit (P n) < count n Q + bit (Q n)
+      here e =
+          let under : count n P ≤ count n Q = count-mono n (λ k l. h k (omega arith)) in
+          omega (arith, ap bit (sym (ap P e) ∙ fails), ap bit (sym (ap Q e) ∙ passes))
+
+      more : count n P < count n Q → count n P + bit (P n) < count n Q + bit (Q n)
+      more under = omega (arith, bit-mono (P n) (Q n) (h n (omega arith)))
 
   -- S passes where one of the two does, which is never both
   pub count-split : (S : ℕ → Bool) (n : ℕ) → ((k : ℕ) → k < n → bit (S k) ≡ bit (P k) + bit (Q k)) → count n S ≡ count n P + count n Q

@@ -4,8 +4,12 @@
 -- Sound: a list with low ≤ high everywhere.
 -- Standings: how two ranges and two rules stand to each other.
 -- Counting: how many numbers below n pass a test.
+-- Parts: how many partitions a run of partition numbers opens.
+-- Places: the place of a rule, the rule at a place, the starts.
 pub mod Offsets
 pub mod Opening
 pub mod Sound
 pub mod Standings
 pub mod Counting
+pub mod Parts
+pub mod Places
