@@ -6,6 +6,7 @@
 -- Counting: how many numbers below n pass a test.
 -- Parts: how many partitions a run of partition numbers opens.
 -- Places: the place of a rule, the rule at a place, the starts.
+-- Runs: the stretch of places that a run is, and its ends by neighbouring places.
 pub mod Offsets
 pub mod Opening
 pub mod Sound
@@ -13,3 +14,4 @@ pub mod Standings
 pub mod Counting
 pub mod Parts
 pub mod Places
+pub mod Runs
