@@ -7,6 +7,7 @@
 -- Parts: how many partitions a run of partition numbers opens.
 -- Places: the place of a rule, the rule at a place, the starts.
 -- Runs: the stretch of places that a run is, and its ends by neighbouring places.
+-- Reading: what is read of the table of a list and a run of partition numbers.
 pub mod Offsets
 pub mod Opening
 pub mod Sound
@@ -15,3 +16,4 @@ pub mod Counting
 pub mod Parts
 pub mod Places
 pub mod Runs
+pub mod Reading
