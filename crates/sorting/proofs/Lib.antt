@@ -8,6 +8,7 @@
 -- Places: the place of a rule, the rule at a place, the starts.
 -- Runs: the stretch of places that a run is, and its ends by neighbouring places.
 -- Reading: what is read of the table of a list and a run of partition numbers.
+-- Kept: the table of any choice of partitions keeps the promise.
 pub mod Offsets
 pub mod Opening
 pub mod Sound
@@ -17,3 +18,4 @@ pub mod Parts
 pub mod Places
 pub mod Runs
 pub mod Reading
+pub mod Kept
