@@ -9,6 +9,7 @@
 -- Runs: the stretch of places that a run is, and its ends by neighbouring places.
 -- Reading: what is read of the table of a list and a run of partition numbers.
 -- Kept: the table of any choice of partitions keeps the promise.
+-- FirstFits: first fit is a choice of partitions, and each rule gets the lowest that is free.
 pub mod Offsets
 pub mod Opening
 pub mod Sound
@@ -19,3 +20,4 @@ pub mod Places
 pub mod Runs
 pub mod Reading
 pub mod Kept
+pub mod FirstFits
