@@ -10,6 +10,8 @@
 -- Reading: what is read of the table of a list and a run of partition numbers.
 -- Kept: the table of any choice of partitions keeps the promise.
 -- FirstFits: first fit is a choice of partitions, and each rule gets the lowest that is free.
+-- Built: the table that the build writes keeps the promise.
+-- Cases: the tables of B1 and B9.
 pub mod Offsets
 pub mod Opening
 pub mod Sound
@@ -21,3 +23,5 @@ pub mod Runs
 pub mod Reading
 pub mod Kept
 pub mod FirstFits
+pub mod Built
+pub mod Cases
