@@ -114,9 +114,7 @@ module _ (R : Rules) (run : List ℕ) where
   same-cell T S t s k (cell-to p f is-p in-row) = t .to p f is-p in-row ∙ sym (s .to p f is-p in-row)
 
   pub reads-table : (T : List ℕ) → TableFor (rulesIn R) (fieldsOf R) T → Reads R run (viewOf R T) → T ≡ tableOf R run
-  reads-table T sized reads =
-      let long = sized .long in
-      let whole = table-sized R run .long in
-      ext-getD 0 T (tableOf R run) (long ∙ sym whole)
-      (λ k lt.
-      same-cell T (tableOf R run) reads table-reads k (cell-of (rulesIn R) (fieldsOf R) k (omega arith)))
+  reads-table T sized reads = ext-getD 0 T (tableOf R run) (sized .long ∙ sym (table-sized R run .long)) at
+    where
+      at : (k : ℕ) → k < length T → getD T k 0 ≡ getD (tableOf R run) k 0
+      at k lt = same-cell T (tableOf R run) reads table-reads k (cell-of (rulesIn R) (fieldsOf R) k (omega (arith, sized .long)))
