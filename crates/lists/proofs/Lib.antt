@@ -5,9 +5,11 @@
 -- Voids: of the refusal 4, low > high in a field, in a rule, in a list.
 -- Fitting: of what fits a header.
 -- Meeting: of rules that one header can fit.
+-- Answers: what an answer says tells it apart from every other.
 pub mod Search
 pub mod Rules
 pub mod Faults
 pub mod Voids
 pub mod Fitting
 pub mod Meeting
+pub mod Answers
