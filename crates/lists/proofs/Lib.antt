@@ -6,6 +6,8 @@
 -- Fitting: of what fits a header.
 -- Meeting: of rules that one header can fit.
 -- Answers: what an answer says tells it apart from every other.
+-- Determined: any two results that a public contract allows are equal.
+-- Theorems: the statements on check, scan and order independence.
 pub mod Search
 pub mod Rules
 pub mod Faults
@@ -13,3 +15,5 @@ pub mod Voids
 pub mod Fitting
 pub mod Meeting
 pub mod Answers
+pub mod Determined
+pub mod Theorems

@@ -1,6 +1,6 @@
 -- Laws of the refusal 4 (`specs/Faults.antt`): a range whose low is greater than its high, in a field, in a rule, in a list.
 --     void-read            the code's test of a range
---     bad-yes, bad-no      a rule with such a field, and one without
+--     bad-yes, bad-no      a rule with such a field, and one without; `bad-field`: it then has a smallest
 --     ends-4, ends-stands  the refusal, at the rule and field where the search for it ends, and none
 --     ends-sound           a list that is not so refused has a number in every range
 -- Assumes nothing.
@@ -15,7 +15,7 @@ use Rattle.ranges.specs.Numbers.{pick, all, least}
 use Rattle.ranges.specs.Sides.{endOf}
 use Rattle.ranges.specs.Refusals.{none, refusedAt, LowAboveHigh}
 use Rattle.ranges.specs.declared.refusal.Refusal.{Refusal}
-use Rattle.ranges.proofs.Numbers.{all-yes, all-at, all-no, least-hit, least-under}
+use Rattle.ranges.proofs.Numbers.{true-not-false, all-yes, all-at, all-no, least-hit, least-under}
 use Rattle.ranges.proofs.Sides.{past-high, within-high}
 use Rattle.lists.specs.Rules.{Rules, fieldsOf, rulesIn, cellOf, lowOf, highOf, endsAt, isVoid}
 use Rattle.lists.specs.Faults.{soundRule, badRule, endsFault}
@@ -49,6 +49,14 @@ module _ (R : Rules) (i v : ℕ) (is-least : v ≡ least (fieldsOf R) (isVoid R 
   bad-no past =
       let past-least : fieldsOf R ≤ least (fieldsOf R) (isVoid R i) = rw is-least at past in
       ap not (all-yes (λ f. not (isVoid R i f)) (fieldsOf R) (λ f lt. ap not (least-under (isVoid R i) (fieldsOf R) f (omega arith))))
+
+-- a rule with such a field has a smallest one
+pub bad-field : (R : Rules) (i : ℕ) → bad R i ≡ true → least (fieldsOf R) (isVoid R i) < fieldsOf R
+bad-field R i is-bad = go (ltb (least (fieldsOf R) (isVoid R i)) (fieldsOf R)) refl
+  where
+    go : (t : Bool) → ltb (least (fieldsOf R) (isVoid R i)) (fieldsOf R) ≡ t → least (fieldsOf R) (isVoid R i) < fieldsOf R
+    go true e = ltb-true (least (fieldsOf R) (isVoid R i)) (fieldsOf R) e
+    go false e = absurd (true-not-false is-bad (bad-no R i (least (fieldsOf R) (isVoid R i)) refl (ltb-false (least (fieldsOf R) (isVoid R i)) (fieldsOf R) e)))
 
 -- the rules below i have no such field
 module _ (R : Rules) (i : ℕ) (told : Told (bad R) false (rulesIn R) i) where
