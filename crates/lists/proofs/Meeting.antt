@@ -120,7 +120,8 @@ module _ (R : Rules) (i j : ℕ) where
       and-both (ltb (lowOf R i f) (endsAt R j f)) (ltb (lowOf R j f) (endsAt R i f)) (lt-ltb (lowOf R i f) (endsAt R j f) i-before)
       (lt-ltb (lowOf R j f) (endsAt R i f) j-before))
 
-max-lt : {a b : ℕ} (k : ℕ) → a < k → b < k → max a b < k
+-- a bound on the greater of two numbers
+pub max-lt : {a b : ℕ} (k : ℕ) → a < k → b < k → max a b < k
 max-lt zero a-lt b-lt = absurd (omega arith)
 max-lt (suc k) a-lt b-lt = suc-le-suc (max-le (le-of-suc-le-suc a-lt) (le-of-suc-le-suc b-lt))
 

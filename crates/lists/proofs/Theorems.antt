@@ -21,13 +21,13 @@ use native.Mathlib.Omega.{arith}
 use lib.Dec.{ltb}
 use lib.ListN.{length, getD}
 use borrow.Author.Tests.{lt-ltb, le-ltb, ltb-true, ltb-false, le-leb, lt-leb, leb-true, leb-false, eqb-true}
-use Rattle.ranges.specs.Numbers.{pick, least}
+use Rattle.ranges.specs.Numbers.{pick, _and_, least}
 use Rattle.ranges.specs.Refusals.{none, stands, refusing, refusedAt, LowAboveHigh}
 use Rattle.ranges.specs.declared.refusal.Refusal.{Refusal}
 use Rattle.ranges.specs.declared.refusal.Count.{Count}
 use Rattle.ranges.specs.declared.refusal.Count.the-variants.{Is, Refused as CountRefused}
-use Rattle.ranges.proofs.Numbers.{never, true-not-false, least-is, least-none, least-hit, least-under}
-use Rattle.lists.specs.Rules.{Rules, Shaped, fieldsOf, rulesIn, lowOf, endsAt, isVoid}
+use Rattle.ranges.proofs.Numbers.{never, true-not-false, least-is, least-none, least-hit, least-under, tab-length, tab-at}
+use Rattle.lists.specs.Rules.{Rules, Shaped, fieldsOf, rulesIn, cellOf, lowOf, endsAt, isVoid}
 use Rattle.lists.specs.Faults.{shapeFault, endsFault, listFault, badRule}
 use Rattle.lists.specs.Check.{checkOf}
 use Rattle.lists.specs.FirstMatch.{fits, firstMatch}
@@ -41,6 +41,7 @@ use Rattle.lists.proofs.Search.{Told}
 use Rattle.lists.proofs.Faults.{shape-stands, shaped, shape-few, shape-of, ends-of}
 use Rattle.lists.proofs.Voids.{bad, bad-field, ends-4, ends-stands, SoundRule, not-bad, sound-not-bad, ends-sound}
 use Rattle.lists.proofs.Fitting.{fits-same, first-same}
+use Rattle.lists.proofs.Meeting.{sharedHeader, max-lt, fits-meet, meet-fits, partner-meets, partner-past, paired-past}
 use Rattle.lists.proofs.Answers.{picked, not-picked}
 
 -- ---- none of 1 to 4 applies: d is 1 to 8, the length is n * d * 2, n is at most 1,024, and low ≤ high everywhere
@@ -68,11 +69,10 @@ sound-none R s =
 -- ---- T6
 -- a check answers n exactly when none of 1 to 4 applies: it refuses nothing else, and lets none of them pass
 pub check-is-n-iff : (R : Rules) → (checkOf R ≡ Is (rulesIn R)) ↔ Sound R
-check-is-n-iff R =
-    (
-      λ e. stands-sound R (picked (Is (rulesIn R)) (CountRefused (listFault R)) (Is (rulesIn R)) (stands (listFault R)) e (λ r. never (cc)) .0),
-      λ s. rw (sound-none R s),
-    )
+check-is-n-iff R = (
+  λ e. stands-sound R (picked (Is (rulesIn R)) (CountRefused (listFault R)) (Is (rulesIn R)) (stands (listFault R)) e (λ r. never (cc)) .0),
+  λ s. rw (sound-none R s),
+)
 
 -- the place of refusal 4: low > high in field f of rule i, and in no rule before it, nor in a field before it
 pub record LeastVoid (R : Rules) (i f : ℕ) : Type 0 where
@@ -163,27 +163,25 @@ first-one R h i first = least-is (fits R h) (rulesIn R) i (first .rule) (first .
 module _ (R : Rules) (h : List ℕ) where
   -- a rule returned fits and none before it does; and the first rule that fits is returned
   pub scan-rule-iff : (i : ℕ) → (scanOf R h ≡ Rule i) ↔ (Sound R × First R h i)
-  scan-rule-iff i =
-      (
-        λ e.
-          let told = picked (matchOf R h) (MatchRefused (listFault R)) (Rule i) (stands (listFault R)) e (λ r. never (cc)) in
-          let found = picked (Rule (firstMatch R h)) Nothing (Rule i) (ltb (firstMatch R h) (rulesIn R)) (told .1) (λ r. never (cc)) in
-          let is-i : firstMatch R h ≡ i = cc (found .1) in
-          (stands-sound R (told .0), rw is-i at (first-here R h (ltb-true (firstMatch R h) (rulesIn R) (found .0)))),
-        λ p. rw (sound-none R (p .0), first-one R h i (p .1), lt-ltb i (rulesIn R) (p .1 .rule)),
-      )
+  scan-rule-iff i = (
+    λ e.
+        let told = picked (matchOf R h) (MatchRefused (listFault R)) (Rule i) (stands (listFault R)) e (λ r. never (cc)) in
+        let found = picked (Rule (firstMatch R h)) Nothing (Rule i) (ltb (firstMatch R h) (rulesIn R)) (told .1) (λ r. never (cc)) in
+        let is-i : firstMatch R h ≡ i = cc (found .1) in
+        (stands-sound R (told .0), rw is-i at (first-here R h (ltb-true (firstMatch R h) (rulesIn R) (found .0)))),
+    λ p. rw (sound-none R (p .0), first-one R h i (p .1), lt-ltb i (rulesIn R) (p .1 .rule)),
+  )
 
   -- none is returned exactly where no rule fits
   pub scan-nothing-iff : (scanOf R h ≡ Nothing) ↔ (Sound R × ((k : ℕ) → k < rulesIn R → fits R h k ≡ false))
   unfolding firstMatch
   scan-nothing-iff =
-      let n = rulesIn R in
-      (
+      let n = rulesIn R in (
         λ e.
-          let told = picked (matchOf R h) (MatchRefused (listFault R)) Nothing (stands (listFault R)) e (λ r. never (cc)) in
-          let past = not-picked (Rule (firstMatch R h)) Nothing Nothing (ltb (firstMatch R h) n) (told .1) (λ r. never (cc)) .0 in
-          let over = ltb-false (least n (fits R h)) n past in
-          (stands-sound R (told .0), λ k lt. least-under (fits R h) n k (omega arith)),
+            let told = picked (matchOf R h) (MatchRefused (listFault R)) Nothing (stands (listFault R)) e (λ r. never (cc)) in
+            let past = not-picked (Rule (firstMatch R h)) Nothing Nothing (ltb (firstMatch R h) n) (told .1) (λ r. never (cc)) .0 in
+            let over = ltb-false (least n (fits R h)) n past in
+            (stands-sound R (told .0), λ k lt. least-under (fits R h) n k (omega arith)),
         λ p. rw (sound-none R (p .0), least-none (fits R h) n (p .1), le-ltb n n (omega arith)),
       )
 
@@ -195,3 +193,143 @@ module _ (R : Rules) (h g : List ℕ) (agree : (f : ℕ) → f < fieldsOf R → 
   pub fits-in-unread : (i : ℕ) → fitsIn R h i ≡ fitsIn R g i
   unfolding fitsIn
   fits-in-unread i = rw (fits-same R h g agree i)
+
+-- ---- T8
+-- no header fits both rules
+abbrev pub Apart : Rules → ℕ → ℕ → Type 0
+Apart R i j = (h : List ℕ) → fits R h i ≡ true → fits R h j ≡ true → ⊥
+
+-- rules that do not meet are apart; and two rules of a sound list that are apart do not meet, else the shared header would fit both
+not-met-apart : (R : Rules) (i j : ℕ) → meet R i j ≡ false → Apart R i j
+not-met-apart R i j not-met h fits-i fits-j = true-not-false (fits-meet R i j h fits-i fits-j) not-met
+
+shared-fits : (R : Rules) → Sound R → (i j : ℕ) → i < rulesIn R → j < rulesIn R → meet R i j ≡ true
+    → (fits R (sharedHeader R i j) i ≡ true) × (fits R (sharedHeader R i j) j ≡ true)
+shared-fits R s i j i-rule j-rule met = meet-fits R i j (s .shape .few-fields) (s .ranges i i-rule) (s .ranges j j-rule) met
+
+apart-not-met : (R : Rules) → Sound R → (i j : ℕ) → i < rulesIn R → j < rulesIn R → Apart R i j → meet R i j ≡ false
+apart-not-met R s i j i-rule j-rule apart = go (meet R i j) refl
+  where
+    go : (t : Bool) → meet R i j ≡ t → meet R i j ≡ false
+    go true met = let both = shared-fits R s i j i-rule j-rule met in absurd (apart (sharedHeader R i j) (both .0) (both .1))
+    go false not-met = not-met
+
+-- a rule that is apart from every later one has no partner
+no-partner-of : (R : Rules) → Sound R → (i : ℕ) → i < rulesIn R → ((l : ℕ) → i < l → l < rulesIn R → Apart R i l) → hasPartner R i ≡ false
+unfolding partnerOf
+no-partner-of R s i rule apart =
+    let n = rulesIn R in
+    let none-is = least-none (partners R i) n (λ l lt. not-partners l lt) in
+    le-ltb (least n (partners R i)) n (omega arith)
+  where
+    not-partners : (l : ℕ) → l < rulesIn R → partners R i l ≡ false
+    not-partners l lt = go (ltb i l) refl
+      where
+        go : (t : Bool) → ltb i l ≡ t → t and meet R i l ≡ false
+        go true e = apart-not-met R s i l rule lt (apart l (ltb-true i l e) lt)
+        go false e = refl
+
+-- "yes" excludes every header, and is answered wherever every header is excluded
+pub independent-iff : (R : Rules)
+    → (independenceOf R ≡ Independent) ↔ (Sound R × ((i j : ℕ) → i < j → j < rulesIn R → Apart R i j))
+unfolding paired
+independent-iff R =
+    let n = rulesIn R in (
+      λ e.
+          let told = picked (pairOf R) (PairRefused (listFault R)) Independent (stands (listFault R)) e (λ r. never (cc)) in
+          let past = not-picked (Both (paired R) (partnerOf R (paired R))) Independent Independent (ltb (paired R) n) (told .1) (λ r. never (cc)) .0 in
+          let over = ltb-false (paired R) n past in
+          (stands-sound R (told .0), λ i j after lt. not-met-apart R i j (paired-past R i j (omega arith) after lt)),
+      λ p.
+          let alone = least-none (hasPartner R) n (λ i lt. no-partner-of R (p .0) i lt (p .1 i)) in
+          rw (sound-none R (p .0), alone, le-ltb n n (omega arith)),
+    )
+
+-- rules i < j, the smallest i and then the smallest j that some header fits
+pub record LeastPair (R : Rules) (i j : ℕ) : Type 0 where
+  pub sound : Sound R
+  pub after : i < j
+  pub rule : j < rulesIn R
+  pub both : (h : List ℕ) × (fits R h i ≡ true) × (fits R h j ≡ true)
+  pub rules-before : (k l : ℕ) → k < i → k < l → l < rulesIn R → Apart R k l
+  pub partners-before : (l : ℕ) → i < l → l < j → Apart R i l
+
+pair-here : (R : Rules) → Sound R → paired R < rulesIn R → LeastPair R (paired R) (partnerOf R (paired R))
+unfolding paired
+pair-here R s lt =
+    let n = rulesIn R in
+    let i = least n (hasPartner R) in
+    let j = partnerOf R i in
+    let has : j < n = ltb-true j n (least-hit (hasPartner R) n lt) in
+    let meets = partner-meets R i has in
+    let fit = shared-fits R s i j lt has (meets .1) in
+    record {
+      sound = s;
+      after = meets .0;
+      rule = has;
+      both = (sharedHeader R i j, fit .0, fit .1);
+      rules-before = λ k l under later rule. not-met-apart R k l (paired-past R k l under later rule);
+      partners-before = λ l later under. not-met-apart R i l (partner-past R i l under later);
+    }
+
+pair-one : (R : Rules) (i j : ℕ) → LeastPair R i j → (partnerOf R i ≡ j) × (paired R ≡ i)
+unfolding paired partnerOf
+pair-one R i j p =
+    let n = rulesIn R in
+    let i-rule : i < n = omega (arith, p .after, p .rule) in
+    let met = fits-meet R i j (p .both .0) (p .both .1) (p .both .2) in
+    let partner = least-is (partners R i) n j (p .rule) (rw (lt-ltb i j (p .after)) met) (λ l lt. not-before l lt) in
+    let has : hasPartner R i ≡ true = rw partner (lt-ltb j n (p .rule)) in (
+      partner,
+      least-is (hasPartner R) n i i-rule has (λ k lt. no-partner-of R (p .sound) k (omega arith) (λ l later rule. p .rules-before k l lt later rule)),
+    )
+  where
+    not-before : (l : ℕ) → l < j → partners R i l ≡ false
+    not-before l lt = go (ltb i l) refl
+      where
+        go : (t : Bool) → ltb i l ≡ t → t and meet R i l ≡ false
+        go true e =
+            let after = ltb-true i l e in
+            let rule : l < rulesIn R = omega (arith, p .rule) in
+            apart-not-met R (p .sound) i l (omega arith) rule (p .partners-before l after lt)
+        go false e = refl
+
+-- the pair named is fitted by one header and no pair before it is; and such a pair is named
+pub pair-iff : (R : Rules) (i j : ℕ) → (independenceOf R ≡ Both i j) ↔ LeastPair R i j
+pair-iff R i j = (
+  λ e.
+      let told = picked (pairOf R) (PairRefused (listFault R)) (Both i j) (stands (listFault R)) e (λ r. never (cc)) in
+      let found = picked (Both (paired R) (partnerOf R (paired R))) Independent (Both i j) (ltb (paired R) (rulesIn R)) (told .1) (λ r. never (cc)) in
+      let is-i : paired R ≡ i = cc (found .1) in
+      let is-j : partnerOf R (paired R) ≡ j = cc (found .1) in
+      moved (paired R) (partnerOf R (paired R)) is-i is-j (pair-here R (stands-sound R (told .0)) (ltb-true (paired R) (rulesIn R) (found .0))),
+  λ p.
+      let one = pair-one R i j p in
+      let i-rule : i < rulesIn R = omega (arith, p .after, p .rule) in
+      rw (sound-none R (p .sound), one .1, one .0, lt-ltb i (rulesIn R) i-rule),
+)
+  where
+    moved : (k l : ℕ) → k ≡ i → l ≡ j → LeastPair R k l → LeastPair R i j
+    moved k l is-i is-j here = rw (← is-i, ← is-j) here
+
+-- a header that fits both rules of the pair: eight numbers, each the low of one of the two, so of 32 bits where the list's are
+pub record FitsBoth (R : Rules) (i j : ℕ) (h : List ℕ) : Type 0 where
+  pub eight : length h ≡ 8
+  pub first : fits R h i ≡ true
+  pub second : fits R h j ≡ true
+  pub words : ((k : ℕ) → getD (R .numbers) k 0 < 2 ^ 32) → (f : ℕ) → f < 8 → getD h f 0 < 2 ^ 32
+
+pub pair-header : (R : Rules) (i j : ℕ) → independenceOf R ≡ Both i j → FitsBoth R i j (sharedHeader R i j)
+unfolding sharedHeader lowOf
+pair-header R i j e =
+    let p = pair-iff R i j .0 e in
+    let i-rule : i < rulesIn R = omega (arith, p .after, p .rule) in
+    let met = fits-meet R i j (p .both .0) (p .both .1) (p .both .2) in
+    let fit = shared-fits R (p .sound) i j i-rule (p .rule) met in
+    let low : ℕ → ℕ = λ f. max (lowOf R i f) (lowOf R j f) in
+    record {
+      eight = tab-length low 8;
+      first = fit .0;
+      second = fit .1;
+      words = λ word f lt. rw (tab-at low 8 f lt) (max-lt (2 ^ 32) (word (cellOf (fieldsOf R) i f)) (word (cellOf (fieldsOf R) j f)));
+    }
