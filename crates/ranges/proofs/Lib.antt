@@ -1,6 +1,8 @@
 -- The laws that proofs of this crate and above cite:
 -- Numbers: of `all`, `count`, `least`, `greatest` and `tab`.
 -- Widths: what shifts and masks do, once for every width.
+-- Answers: what an answer says tells it apart from every other.
+-- OneAnswer: a contract that allows one result alone.
 -- Sides: of the first number past a range and of the range test.
 -- Prefixes: which answer a prefix has.
 -- Blocks: the largest aligned block, and the search by doubling.
@@ -14,6 +16,8 @@
 -- Determined: any two results that a contract allows are equal.
 pub mod Numbers
 pub mod Widths
+pub mod Answers
+pub mod OneAnswer
 pub mod Sides
 pub mod Prefixes
 pub mod Blocks
