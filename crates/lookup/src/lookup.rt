@@ -1,0 +1,1 @@
+// The lookup of a header in a table.
