@@ -1,7 +1,13 @@
 -- The laws that proofs of this crate and above cite:
 -- Within: what the walk reads lies within the list and the table.
 -- Steps: what one test leaves.
--- Walks: the turns of a walk.
+-- Arrivals: the end of a walk at field d.
+-- Walks: the turns of a walk, and what holds of every walk.
+-- Counts: how many tests a walk makes.
+-- Visits: a partition, and all of them in order.
 pub mod Within
 pub mod Steps
+pub mod Arrivals
 pub mod Walks
+pub mod Counts
+pub mod Visits

@@ -70,17 +70,17 @@ module _ (R : Rules) (v : View) (h : List ℕ) (P : ℕ → ℕ → ℕ → ℕ 
     (empty : (s e f t : ℕ) → e ≤ s → P s e f t (Ran Miss t))
     (arrives : (s e f t : ℕ) → s < e → fieldsOf R ≤ f → P s e f t (arrivedOf R v h s e t))
     (goes : (s e f t : ℕ) → s < e → f < fieldsOf R → (s′ e′ f′ : ℕ) → stepOf R v h s e f ≡ On s′ e′ f′ → (w : Walked) → P s′ e′ f′ (t + 1) w → P s e f t w)
-    where
-  pub walk-holds : (k s e f t : ℕ) → P s e f t (walkFrom R v h k s e f t)
-  unfolding walkFrom
-  walk-holds zero s e f t = broken s e f t
-  walk-holds (suc k) s e f t = go (leb e s) refl (leb (fieldsOf R) f) refl (stepOf R v h s e f) refl (walk-holds k)
-    where
-      go : (p : Bool) → leb e s ≡ p → (q : Bool) → leb (fieldsOf R) f ≡ q → (x : Step) → stepOf R v h s e f ≡ x
-          → ((s′ e′ f′ t′ : ℕ) → P s′ e′ f′ t′ (walkFrom R v h k s′ e′ f′ t′))
-          → P s e f t (pick p (Ran Miss t) (pick q (arrivedOf R v h s e t) (afterStep x (λ s′ e′ f′. walkFrom R v h k s′ e′ f′ (t + 1)))))
-      go true is-p q is-q x is-x rest = empty s e f t (leb-true e s is-p)
-      go false is-p true is-q x is-x rest = arrives s e f t (leb-false e s is-p) (leb-true (fieldsOf R) f is-q)
-      go false is-p false is-q Fault is-x rest = broken s e f t
-      go false is-p false is-q (On s′ e′ f′) is-x rest =
-          goes s e f t (leb-false e s is-p) (leb-false (fieldsOf R) f is-q) s′ e′ f′ is-x (walkFrom R v h k s′ e′ f′ (t + 1)) (rest s′ e′ f′ (t + 1))
+  where
+    pub walk-holds : (k s e f t : ℕ) → P s e f t (walkFrom R v h k s e f t)
+    unfolding walkFrom
+    walk-holds zero s e f t = broken s e f t
+    walk-holds (suc k) s e f t = go (leb e s) refl (leb (fieldsOf R) f) refl (stepOf R v h s e f) refl (walk-holds k)
+      where
+        go : (p : Bool) → leb e s ≡ p → (q : Bool) → leb (fieldsOf R) f ≡ q → (x : Step) → stepOf R v h s e f ≡ x
+            → ((s′ e′ f′ t′ : ℕ) → P s′ e′ f′ t′ (walkFrom R v h k s′ e′ f′ t′))
+            → P s e f t (pick p (Ran Miss t) (pick q (arrivedOf R v h s e t) (afterStep x (λ s′ e′ f′. walkFrom R v h k s′ e′ f′ (t + 1)))))
+        go true is-p q is-q x is-x rest = empty s e f t (leb-true e s is-p)
+        go false is-p true is-q x is-x rest = arrives s e f t (leb-false e s is-p) (leb-true (fieldsOf R) f is-q)
+        go false is-p false is-q Fault is-x rest = broken s e f t
+        go false is-p false is-q (On s′ e′ f′) is-x rest =
+            goes s e f t (leb-false e s is-p) (leb-false (fieldsOf R) f is-q) s′ e′ f′ is-x (walkFrom R v h k s′ e′ f′ (t + 1)) (rest s′ e′ f′ (t + 1))

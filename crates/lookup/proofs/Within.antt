@@ -7,11 +7,15 @@ use Prim.Native.Nat.{ℕ, _≤_, _<_}
 use mathlib.Core.List.{List}
 use native.Mathlib.Omega.{arith}
 use lib.ListN.{length}
-use Rattle.lists.specs.Rules.{Rules, fieldsOf, cellOf}
+use Rattle.lists.specs.Rules.{Rules, HasCell, fieldsOf, rulesIn, cellOf}
 use Rattle.lists.proofs.Rules.{row-inside}
 use Rattle.sorting.specs.Layout.{orderAt, startAt, fromAt, toAt}
 use Rattle.sorting.proofs.Offsets.{order-inside, start-inside, from-inside, to-inside}
-use Rattle.lookup.specs.Lent.{Ready, HasCell}
+use Rattle.lookup.specs.Lent.{Ready}
+
+-- at most 1,024 rules
+pub few-rules : (R : Rules) (n : ℕ) (T : List ℕ) → Ready R n T → rulesIn R ≤ 1024
+few-rules R n T lent = omega arith
 
 module _ {R : Rules} {n : ℕ} {T : List ℕ} (lent : Ready R n T) where
   pub order-read : (p : ℕ) → p < n → orderAt p < length T

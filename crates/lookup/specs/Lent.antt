@@ -1,11 +1,11 @@
 -- What the walk is lent: a list and a table that the opening let through, and a group of places of that table. The
 -- functions below `lookup` require these; `lookup` itself requires nothing.
 -- Assumes nothing: these are definitions.
-use Prim.Native.Nat.{ℕ, _+_, _*_, _≤_, _<_}
+use Prim.Native.Nat.{ℕ, _*_, _≤_}
 use mathlib.Core.List.{List}
 use mathlib.Core.Path.{_≡_}
 use lib.ListN.{length}
-use Rattle.lists.specs.Rules.{Rules, fieldsOf, rulesIn, cellOf}
+use Rattle.lists.specs.Rules.{Rules, fieldsOf, rulesIn}
 use Rattle.sorting.specs.Layout.{tableLength}
 
 -- a list of n rules and a table, both of the right length
@@ -21,9 +21,3 @@ pub record Ready (R : Rules) (n : ℕ) (T : List ℕ) : Type 0 where
 pub record Group (n d s e f : ℕ) : Type 0 where
   pub in-table : e ≤ n
   pub in-row : f ≤ d
-
--- field f of rule i stands in the list
-pub record HasCell (R : Rules) (i f : ℕ) : Type 0 where
-  pub few-fields : fieldsOf R ≤ 8
-  pub field : f < fieldsOf R
-  pub within : cellOf (fieldsOf R) i f + 1 < length (R .numbers)

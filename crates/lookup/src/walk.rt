@@ -1,4 +1,5 @@
 // The walk through one partition.
+use lists::scan::rule_fits;
 use lists::shape::Shape;
 use lists::shape::cell;
 use ranges::side::Side;
@@ -9,10 +10,10 @@ use sorting::layout::to_at;
 ghost use mathlib.Core.Path.{_≡_};
 ghost use Prim.Native.Nat.{ℕ, _+_, _-_, _<_, _≤_};
 ghost use lib.ListN.{length, getD};
-ghost use Rattle.lists.specs.Rules.{listed};
+ghost use Rattle.lists.specs.Rules.{listed, HasCell};
 ghost use Rattle.lists.specs.FirstMatch.{sideAt};
 ghost use Rattle.sorting.specs.Layout.{orderAt, fromAt, toAt, view};
-ghost use Rattle.lookup.specs.Lent.{Ready, Group, HasCell};
+ghost use Rattle.lookup.specs.Lent.{Ready, Group};
 ghost use Rattle.lookup.specs.Walk.{runStands, stepOf, arrivedOf, walkFrom};
 
 // What a walk finds in a partition.
@@ -125,7 +126,16 @@ fn one_step(
 
 // Ends a walk at field d on places s to before e: gives the rule of the one place that is left, held against the header in
 // all d fields once more; or a broken table.
-fn arrive(shape: Shape, n: u16, list: &[u32], table: &[u16], header: &[u32; 8], s: u16, e: u16, tests: usize) -> Walked
+fn arrive(
+    shape: Shape,
+    n: u16,
+    list: &[u32],
+    table: &[u16],
+    header: &[u32; 8],
+    s: u16,
+    e: u16,
+    tests: usize,
+) -> Walked
     requires { ⌜ Ready (listed shape (now list)) n (now table) ⌝ }
     requires { ⌜ (s < e) × (e ≤ n) ⌝ }
     ensures { λ r. ⌜ r ≡ arrivedOf (listed shape (now (list .entry))) (view n (shape .d) (now (table .entry))) (now (header .entry)) s e tests ⌝ }
@@ -134,12 +144,25 @@ fn arrive(shape: Shape, n: u16, list: &[u32], table: &[u16], header: &[u32; 8], 
         return Walked::Broken;
     }
     let rule = rule_at(table, s);
+    if !rule_fits(shape, list, rule, *header) {
+        return Walked::Broken;
+    }
     Walked::Ran(Found::Hit(rule as usize), tests)
 }
 
 // Walks on from places s to before e at field f, with some tests made: calls itself on a smaller group or the next
 // field, so that group size plus remaining fields falls at each call.
-pub(crate) fn walk(shape: Shape, n: u16, list: &[u32], table: &[u16], header: &[u32; 8], s: u16, e: u16, f: u16, tests: usize) -> Walked
+pub(crate) fn walk(
+    shape: Shape,
+    n: u16,
+    list: &[u32],
+    table: &[u16],
+    header: &[u32; 8],
+    s: u16,
+    e: u16,
+    f: u16,
+    tests: usize,
+) -> Walked
     requires { ⌜ Ready (listed shape (now list)) n (now table) ⌝ }
     requires { ⌜ Group n (shape .d) s e f ⌝ }
     requires { ⌜ tests + (e - s) + (shape .d - f) ≤ 4096 ⌝ }
