@@ -5,9 +5,11 @@
 -- Walks: the turns of a walk, and what holds of every walk.
 -- Counts: how many tests a walk makes.
 -- Visits: a partition, and all of them in order.
+-- Lookups: the refusals of the opening, and the search of a table that opens.
 pub mod Within
 pub mod Steps
 pub mod Arrivals
 pub mod Walks
 pub mod Counts
 pub mod Visits
+pub mod Lookups
