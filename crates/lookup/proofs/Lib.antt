@@ -13,3 +13,4 @@ pub mod Walks
 pub mod Counts
 pub mod Visits
 pub mod Lookups
+pub mod Cases
