@@ -6,17 +6,18 @@
 --     count-once, count-some                 at most one passes; some passes
 --     onto                                   a one-to-one function from the numbers below n to themselves reaches each of them
 --     least-same, greatest-same              tests that agree
+--     greatest-hit, greatest-ge, greatest-lt the greatest that passes, passes; is not less than one that does; is below n
 -- Assumes nothing.
 use Prim.Native.Nat.{ℕ, zero, suc, _+_, _-_, _≤_, _<_}
 use mathlib.Core.Bool.{Bool, true, false}
-use mathlib.Core.Path.{_≡_, refl, sym, ap, _∙_, subst}
+use mathlib.Core.Path.{_≡_, refl, sym, ap, _∙_}
 use mathlib.Core.Logic.{⊎-elim}
 use native.Mathlib.Omega.{arith}
 use native.Mathlib.Nat.{eq-or-lt-of-le, le-of-suc-le-suc}
 use lib.Dec.{ltb, eqb}
-use borrow.Author.Tests.{lt-ltb, le-ltb, eq-eqb, ne-eqb, ltb-true, ltb-false, eqb-true, eqb-false}
+use borrow.Author.Tests.{lt-ltb, le-ltb, ltb-true, ltb-false, eqb-true, eqb-false}
 use Rattle.ranges.specs.Numbers.{pick, bit, count, least, greatest}
-use Rattle.ranges.proofs.Numbers.{never, true-not-false}
+use Rattle.ranges.proofs.Numbers.{true-not-false}
 
 -- ---- one test's share
 bit-mono : (s t : Bool) → (s ≡ true → t ≡ true) → bit s ≤ bit t
@@ -53,16 +54,16 @@ module _ (P Q : ℕ → Bool) where
   unfolding count
   count-strict zero j lt h fails passes = absurd (omega arith)
   count-strict (suc n) j lt h fails passes =
-      ⊎-elim
-      (λ e.
-      let under : count n P ≤ count n Q = count-mono n (λ k l. h k (omega arith)) in
-      let p : P n ≡ false = subst (λ m. P m ≡ false) e fails in
-      let q : Q n ≡ true = subst (λ m. Q m ≡ true) e passes in
-      rw (p, q) (omega arith))
-      (λ l.
-      let under : count n P < count n Q = count-strict n j l (λ k l. h k (omega arith)) fails passes in
-      omega (arith, bit-mono (P n) (Q n) (h n (omega arith))))
-      (eq-or-lt-of-le (le-of-suc-le-suc lt))
+      ⊎-elim here (λ l. more (count-strict n j l (λ k l. h k (omega arith)) fails passes)) (eq-or-lt-of-le (le-of-suc-le-suc lt))
+    where
+      -- j is the number that is added
+      here : j ≡ n → count n P + bit (P n) < count n Q + bit (Q n)
+      here e =
+          let under : count n P ≤ count n Q = count-mono n (λ k l. h k (omega arith)) in
+          omega (arith, ap bit (sym (ap P e) ∙ fails), ap bit (sym (ap Q e) ∙ passes))
+
+      more : count n P < count n Q → count n P + bit (P n) < count n Q + bit (Q n)
+      more under = omega (arith, bit-mono (P n) (Q n) (h n (omega arith)))
 
   -- S passes where one of the two does, which is never both
   pub count-split : (S : ℕ → Bool) (n : ℕ) → ((k : ℕ) → k < n → bit (S k) ≡ bit (P k) + bit (Q k)) → count n S ≡ count n P + count n Q
@@ -161,3 +162,44 @@ module _ (P Q : ℕ → Bool) where
   unfolding greatest
   greatest-same zero h = refl
   greatest-same (suc n) h = rw (greatest-same n (λ k l. h k (omega arith)), h n (omega arith))
+
+-- ---- greatest
+pick-le : (t : Bool) (n g : ℕ) → g ≤ n → pick t n g ≤ n
+pick-le true n g le = omega arith
+pick-le false n g le = le
+
+module _ (P : ℕ → Bool) where
+  greatest-le : (n : ℕ) → greatest (suc n) P ≤ n
+  unfolding greatest
+  greatest-le zero = pick-le (P 0) 0 0 (omega arith)
+  greatest-le (suc n) = pick-le (P (suc n)) (suc n) (greatest (suc n) P) (omega (arith, greatest-le n))
+
+  pub greatest-lt : (n : ℕ) → 0 < n → greatest n P < n
+  greatest-lt zero some = absurd (omega arith)
+  greatest-lt (suc n) some = omega (arith, greatest-le n)
+
+  pub greatest-ge : (n j : ℕ) → j < n → P j ≡ true → j ≤ greatest n P
+  unfolding greatest
+  greatest-ge zero j lt passes = absurd (omega arith)
+  greatest-ge (suc n) j lt passes = go (P n) refl (greatest-ge n j)
+    where
+      go : (t : Bool) → P n ≡ t → (j < n → P j ≡ true → j ≤ greatest n P) → j ≤ pick t n (greatest n P)
+      go true e under = omega arith
+      go false e under =
+          ⊎-elim
+          (λ is. absurd (true-not-false (sym (ap P is) ∙ passes) e))
+          (λ l. under l passes)
+          (eq-or-lt-of-le (le-of-suc-le-suc lt))
+
+  pub greatest-hit : (n j : ℕ) → j < n → P j ≡ true → P (greatest n P) ≡ true
+  unfolding greatest
+  greatest-hit zero j lt passes = absurd (omega arith)
+  greatest-hit (suc n) j lt passes = go (P n) refl (greatest-hit n j)
+    where
+      go : (t : Bool) → P n ≡ t → (j < n → P j ≡ true → P (greatest n P) ≡ true) → P (pick t n (greatest n P)) ≡ true
+      go true e under = e
+      go false e under =
+          ⊎-elim
+          (λ is. absurd (true-not-false (sym (ap P is) ∙ passes) e))
+          (λ l. under l passes)
+          (eq-or-lt-of-le (le-of-suc-le-suc lt))
