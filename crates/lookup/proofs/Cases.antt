@@ -9,7 +9,7 @@ use lib.Dec.{T, eqb, ltb, leb}
 use Rattle.ranges.specs.Numbers.{pick, _and_, all, count, least, greatest, tab}
 use Rattle.ranges.specs.Refusals.{Said}
 use Rattle.ranges.specs.Sides.{endOf, sideOf}
-use Rattle.lists.specs.Rules.{Rules, listed, rulesIn, cellOf, lowOf, highOf}
+use Rattle.lists.specs.Rules.{rulesIn, cellOf, lowOf, highOf}
 use Rattle.lists.specs.FirstMatch.{fits}
 use Rattle.lists.specs.Faults.{shapeFault}
 use Rattle.sorting.specs.Order.{standingOf, compare}
@@ -17,6 +17,7 @@ use Rattle.sorting.specs.FirstFit.{fitOf, firstFit, parts}
 use Rattle.sorting.specs.Layout.{tableLength, orderAt, startAt, fromAt, toAt}
 use Rattle.sorting.specs.Table.{placeOf, ruleAt, startOf, runFrom, runTo, tableOf, builtTable}
 use Rattle.sorting.specs.Opening.{opening, openFault}
+use Rattle.sorting.proofs.Cases.{bench, benchTable, empty, emptyTable}
 use Rattle.lookup.specs.Walk.{runStands, stepAt, arrivedOf, walkFrom}
 use Rattle.lookup.specs.Lookup.{visitOf, lookupFrom, lookupOf, saysLooked}
 
@@ -51,23 +52,9 @@ rule i t = 0 ∷ 0 ∷ 0 ∷ 1 ∷ i ∷ t ∷ []
 abbrev nothing : ℕ → List ℕ
 nothing t = 0 ∷ 0 ∷ 0 ∷ 0 ∷ t ∷ []
 
--- ---- the bench list, d = 2 (model, serial), n = 5, and its table
-abbrev bench : Rules
-bench =
-    listed record { d = 2 }
-    (7 ∷ 7 ∷ 100 ∷ 100 ∷ 7 ∷ 7 ∷ 200 ∷ 299 ∷ 8 ∷ 8 ∷ 0 ∷ 999 ∷ 7 ∷ 7 ∷ 0 ∷ 999 ∷ 0 ∷ 9 ∷ 0 ∷ 999 ∷ [])
-
-abbrev benchTable : List ℕ
-benchTable =
-    5 ∷ 2 ∷ 3 ∷ 0 ∷ 1 ∷ 2 ∷ 3 ∷ 4 ∷ 0 ∷ 3 ∷ 4 ∷ 5 ∷ 0 ∷ 0 ∷ 0 ∷ 0 ∷ 0 ∷ 1 ∷ 2 ∷ 2 ∷ 3 ∷ 3 ∷ 4 ∷ 4 ∷ 2 ∷ 1 ∷ 2 ∷ 2 ∷ 3 ∷ 3 ∷ 4 ∷ 4 ∷ 5 ∷ 5 ∷ []
-
--- a header of two numbers; the other six alter nothing
+-- ---- a header of two numbers, looked up in the bench table; the other six alter nothing
 abbrev asked : ℕ → ℕ → List ℕ
 asked x y = numbers (saysLooked (lookupOf bench benchTable (x ∷ y ∷ 1 ∷ 2 ∷ 3 ∷ 4 ∷ 5 ∷ 6 ∷ [])))
-
--- no rule of one field
-abbrev empty : Rules
-empty = listed record { d = 1 } []
 
 -- ---- the cases
 pub cases : List Row
@@ -80,8 +67,8 @@ cases =
     ∷ row 6 (asked 9 5) (rule 4 5)
     ∷ row 7 (asked 10 0) (nothing 4)
     ∷ row 8 (asked 7 1000) (nothing 6)
-    ∷ row 9 (builtTable empty) (0 ∷ 1 ∷ 0 ∷ 0 ∷ [])
-    ∷ row 9 (numbers (saysLooked (lookupOf empty (0 ∷ 1 ∷ 0 ∷ 0 ∷ []) (4294967295 ∷ 0 ∷ 0 ∷ 0 ∷ 0 ∷ 0 ∷ 0 ∷ 0 ∷ [])))) (nothing 0)
+    ∷ row 9 (builtTable empty) emptyTable
+    ∷ row 9 (numbers (saysLooked (lookupOf empty emptyTable (4294967295 ∷ 0 ∷ 0 ∷ 0 ∷ 0 ∷ 0 ∷ 0 ∷ 0 ∷ [])))) (nothing 0)
     ∷ []
 
 pub cases-hold : T (hold cases)

@@ -14,3 +14,5 @@ pub mod Counts
 pub mod Visits
 pub mod Lookups
 pub mod Cases
+pub mod Answers
+pub mod Unread
