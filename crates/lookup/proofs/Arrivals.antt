@@ -1,6 +1,6 @@
 -- Laws of the end of a walk at field d (`specs/Walk.antt`).
 --     arrive-many, arrive-unfit, arrive-fits      not one place; no such rule or one that does not fit; the candidate i
---     Arrived, arrived                            what an answer says
+--     Arrived, arrived, arrived-yes               what an answer says, either way round
 -- Assumes nothing.
 use Prim.Native.Nat.{ℕ, _+_, _≤_, _<_}
 use mathlib.Core.Bool.{Bool, true, false, not}
@@ -60,3 +60,9 @@ arrived R v h s e t x u = go (eqb e (s + 1)) (ltb (v .order s) (rulesIn R)) (fit
         let is-x : x ≡ Hit (v .order s) = cc in
         let is-u : u ≡ t = cc in
         record { one = eqb-true e (s + 1) is-o; rule = ltb-true (v .order s) (rulesIn R) is-p; fit = is-q; found = is-x; tests = is-u }
+
+-- and the other way round
+pub arrived-yes : (R : Rules) (v : View) (h : List ℕ) (s e t : ℕ) → e ≡ s + 1 → v .order s < rulesIn R → fits R h (v .order s) ≡ true
+    → arrivedOf R v h s e t ≡ Ran (Hit (v .order s)) t
+unfolding arrivedOf
+arrived-yes R v h s e t one rule fit = rw (eq-eqb e (s + 1) one, lt-ltb (v .order s) (rulesIn R) rule, fit)

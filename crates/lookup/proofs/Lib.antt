@@ -16,3 +16,4 @@ pub mod Lookups
 pub mod Cases
 pub mod Answers
 pub mod Unread
+pub mod Groups
