@@ -17,3 +17,4 @@ pub mod Cases
 pub mod Answers
 pub mod Unread
 pub mod Groups
+pub mod Firsts
