@@ -18,3 +18,4 @@ pub mod Answers
 pub mod Unread
 pub mod Groups
 pub mod Firsts
+pub mod Totals
