@@ -19,3 +19,4 @@ pub mod Unread
 pub mod Groups
 pub mod Firsts
 pub mod Totals
+pub mod Reached
