@@ -20,7 +20,8 @@ use Rattle.ranges.specs.Refusals.{none}
 use Rattle.ranges.proofs.Numbers.{least-is, least-none}
 use Rattle.lists.specs.Rules.{Rules, fieldsOf, rulesIn}
 use Rattle.lists.specs.FirstMatch.{fits, firstMatch}
-use Rattle.lists.specs.Faults.{shapeFault}
+use Rattle.lists.proofs.Rules.{Shaped}
+use Rattle.lists.proofs.Faults.{shape-stands}
 use Rattle.sorting.specs.Layout.{View, TableFor}
 use Rattle.sorting.specs.Opening.{opening, viewOf, openFault}
 use Rattle.sorting.specs.Promise.{InPart, Promise}
@@ -144,12 +145,12 @@ module _ {R : Rules} {v : View} (h : List ℕ) (promise : Promise R v) where
       }
 
 -- ---- the lookup
-module _ (R : Rules) (T : List ℕ) (stands : shapeFault R .number ≡ 0) (sized : TableFor (rulesIn R) (fieldsOf R) T) (promise : Promise R (viewOf R T)) where
+module _ (R : Rules) (T : List ℕ) (shape : Shaped R) (sized : TableFor (rulesIn R) (fieldsOf R) T) (promise : Promise R (viewOf R T)) where
   -- such a table opens
   pub promise-opens : openFault R T ≡ none
   promise-opens =
       let v = viewOf R T in
-      open-stands R T stands (sized .long)
+      open-stands R T (ap (λ x. x .number) (shape-stands R (shape .some-fields) (shape .few-fields) (sym (shape .whole)) (shape .few-rules))) (sized .long)
       (opening-last (rulesIn R) (fieldsOf R) v (promise .rules) (promise .fields) (parts-few promise) (promise .first-start)
       ∙ eq-eqb (v .start (v .b)) (rulesIn R) (promise .last-start))
 

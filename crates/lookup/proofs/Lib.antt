@@ -20,3 +20,6 @@ pub mod Groups
 pub mod Firsts
 pub mod Totals
 pub mod Reached
+pub mod Refusing
+pub mod Theorems
+pub mod Determined

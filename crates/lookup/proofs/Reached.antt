@@ -27,7 +27,7 @@ use Rattle.lists.specs.Rules.{Rules, fieldsOf, rulesIn, cellOf, lowOf, highOf, 
 use Rattle.lists.specs.FirstMatch.{sideAt, insideAt, fits}
 use Rattle.lists.specs.Faults.{shapeFault, soundRule, badRule, endsFault, listFault}
 use Rattle.lists.proofs.Rules.{row-inside}
-use Rattle.lists.proofs.Faults.{shape-stands}
+use Rattle.lists.proofs.Faults.{shape-stands, shaped}
 use Rattle.sorting.specs.Layout.{View}
 use Rattle.sorting.specs.Opening.{viewOf}
 use Rattle.sorting.specs.Order.{compare, isClash, before, clash}
@@ -328,6 +328,6 @@ pub ladder-reaches : (d m k : ℕ) → 1 ≤ d → d ≤ 8 → 1 ≤ m → m ≤
 ladder-reaches d m k some few rules few-rules power =
     let R = ladder d m in
     let promise = built-keeps-promise R (ladder-sound d m some) in
-    let opens = promise-opens R (builtTable R) (ap (λ x. x .number) (ladder-shape d m some few few-rules)) (table-sized R (firstFit R (rulesIn R))) promise in
+    let opens = promise-opens R (builtTable R) (shaped R (ap (λ x. x .number) (ladder-shape d m some few few-rules))) (table-sized R (firstFit R (rulesIn R))) promise in
     lookup-searches R (builtTable R) zeros (ap (λ x. x .number) opens)
     ∙ search-ladder d m some few rules (viewOf R (builtTable R)) promise (ladder-parts d m some rules) k power
