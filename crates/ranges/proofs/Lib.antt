@@ -12,7 +12,6 @@
 -- Cover: what the prefixes of a range are: each number in exactly one, each block the largest.
 -- Few: how many prefixes a range has, once for every width.
 -- Theorems: the headline statements, T1 to T5.
--- Cases: the worked cases B10 to B12.
 -- Determined: any two results that a contract allows are equal.
 pub mod Numbers
 pub mod Widths
@@ -27,5 +26,4 @@ pub mod RangeFaults
 pub mod Cover
 pub mod Few
 pub mod Theorems
-pub mod Cases
 pub mod Determined
