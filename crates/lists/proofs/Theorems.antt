@@ -17,15 +17,14 @@ use Prim.Native.Nat.{ℕ, max, _^_, _≤_, _<_}
 use mathlib.Core.Bool.{Bool, true, false, not}
 use mathlib.Core.List.{List}
 use mathlib.Core.Logic.{_↔_}
-use mathlib.Core.Path.{_≡_, refl, sym, ap, _∙_}
+use mathlib.Core.Path.{_≡_, refl, sym, ap}
 use native.Mathlib.Omega.{arith}
 use lib.Dec.{ltb}
 use lib.ListN.{length, getD}
 use borrow.Author.Tests.{lt-ltb, le-ltb, ltb-true, ltb-false, le-leb, lt-leb, leb-true, leb-false, eqb-true, not-true}
-use Rattle.ranges.specs.Numbers.{pick, _and_, _or_, least}
-use Rattle.ranges.specs.Refusals.{none, stands, refusing, refusedAt, LowAboveHigh}
+use Rattle.ranges.specs.Numbers.{_and_, _or_, least}
+use Rattle.ranges.specs.Refusals.{none, stands, refusedAt, LowAboveHigh}
 use Rattle.ranges.specs.declared.refusal.Refusal.{Refusal}
-use Rattle.ranges.specs.declared.refusal.Count.{Count}
 use Rattle.ranges.specs.declared.refusal.Count.the-variants.{Is, Refused as CountRefused}
 use Rattle.ranges.proofs.Numbers.{never, and-left, and-right, true-not-false, least-is, least-none, least-hit, least-under, tab-length, tab-at}
 use Rattle.lists.specs.Rules.{Rules, Shaped, fieldsOf, rulesIn, cellOf, lowOf, endsAt, isVoid}
@@ -34,9 +33,7 @@ use Rattle.lists.specs.Check.{checkOf}
 use Rattle.lists.specs.FirstMatch.{fits, firstMatch}
 use Rattle.lists.specs.Scan.{fitsIn, matchOf, scanOf}
 use Rattle.lists.specs.Independence.{meet, partners, partnerOf, hasPartner, paired, pairOf, independenceOf}
-use Rattle.lists.specs.declared.scan.Match.{Match}
 use Rattle.lists.specs.declared.scan.Match.the-variants.{Rule, Nothing, Refused as MatchRefused}
-use Rattle.lists.specs.declared.independence.Pair.{Pair}
 use Rattle.lists.specs.declared.independence.Pair.the-variants.{Independent, Both, Refused as PairRefused}
 use Rattle.lists.proofs.Search.{Told}
 use Rattle.lists.proofs.Faults.{shape-stands, shaped, shape-few, shape-of, ends-of}
