@@ -4,3 +4,4 @@ pub mod Layout
 pub mod Table
 pub mod Opening
 pub mod Promise
+pub mod Asked
