@@ -5,3 +5,4 @@ pub mod Table
 pub mod Opening
 pub mod Promise
 pub mod Asked
+pub mod Marks

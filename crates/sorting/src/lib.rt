@@ -3,5 +3,6 @@
 // Renders 01's sections 'Order and partitions', 'The working table' and, of 'Refusal numbers' and 'Other answers',
 // what is said of a build, an audit and a report. The crates of the lookup and the programs may cite it; it cites
 // `ranges` and `lists`. What a lookup may rely on is `specs/Promise.antt` alone.
+mod choose;
 pub mod layout;
 pub mod order;
