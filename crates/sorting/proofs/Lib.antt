@@ -1,9 +1,21 @@
 -- The laws that proofs of this crate and above cite:
--- Offsets: every part of a table lies within it.
--- Opening: which refusal an opening meets, and what a table is that opens.
 -- Fields: how two rules stand to each other, as the code finds it.
 -- Stamps: first fit by stamps.
-pub mod Offsets
-pub mod Opening
+-- Offsets: every part of a table lies within it.
+-- Opening: which refusal an opening meets, and what a table is that opens.
+-- Sound: a list with low ≤ high everywhere.
+-- Standings: how two ranges and two rules stand to each other.
+-- Counting: how many numbers below n pass a test.
+-- Parts: how many partitions a run of partition numbers opens.
+-- Places: the place of a rule, the rule at a place, the starts.
+-- Runs: the stretch of places that a run is, and its ends by neighbouring places.
 pub mod Fields
 pub mod Stamps
+pub mod Offsets
+pub mod Opening
+pub mod Sound
+pub mod Standings
+pub mod Counting
+pub mod Parts
+pub mod Places
+pub mod Runs
