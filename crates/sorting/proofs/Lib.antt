@@ -1,6 +1,7 @@
 -- The laws that proofs of this crate and above cite:
 -- Fields: how two rules stand to each other, as the code finds it.
 -- Stamps: first fit by stamps.
+-- Choosing: the loop that takes one rule after the other.
 -- Offsets: every part of a table lies within it.
 -- Opening: which refusal an opening meets, and what a table is that opens.
 -- Sound: a list with low ≤ high everywhere.
@@ -11,6 +12,7 @@
 -- Runs: the stretch of places that a run is, and its ends by neighbouring places.
 pub mod Fields
 pub mod Stamps
+pub mod Choosing
 pub mod Offsets
 pub mod Opening
 pub mod Sound

@@ -3,7 +3,7 @@
 --     mark-old, mark-clash, mark-keep                         the stamp of one partition
 --     Stamping, stamping-none, stamping-more, stamping-end    the stamps once rule i is held against the first j rules
 --     Seeking, seeking-none, seeking-more, seeking-hit, seeking-end       the search for a partition without the stamp
---     stamped-fit, stamped-fresh                              it is first fit's; and the stamps are ready for the next rule
+--     stamped-fit, stamped-long, stamped-fresh                it is first fit's; and the stamps are ready for the next rule
 -- Assumes nothing.
 use Prim.Native.Nat.{ℕ, zero, suc, _+_, _≤_, _<_}
 use mathlib.Core.Bool.{Bool, true, false, not}
@@ -13,14 +13,15 @@ use mathlib.Core.Logic.{⊎-elim}
 use native.Mathlib.Omega.{arith}
 use native.Mathlib.Numerals.{add-one}
 use borrow.Author.Count.{below-none, below-more}
-use borrow.Author.Tests.{eq-eqb, ne-eqb, eqb-true, eqb-false}
+use borrow.Author.Tests.{eq-eqb, ne-eqb, eqb-true, eqb-false, ltb-true, ltb-false}
 use lib.Dec.{ltb, eqb}
-use lib.ListN.{length, getD, set, length-set}
+use lib.ListN.{length, getD, set, length-set, List·getD-eq-default}
 use lib.Seq.{getD-set-same, getD-set-other, ext-getD}
 use Rattle.ranges.specs.Numbers.{pick, _and_, all, least, tab}
 use Rattle.ranges.proofs.Numbers.{true-not-false, all-yes, least-is, least-none, least-under, least-le, tab-length, tab-at}
 use Rattle.lists.specs.Rules.{Rules, rulesIn}
 use Rattle.lists.proofs.Rules.{Shaped}
+use Rattle.sorting.proofs.Counting.{least-same}
 use Rattle.sorting.specs.Order.{clash}
 use Rattle.sorting.specs.FirstFit.{partOf, free, fitOf}
 use Rattle.sorting.specs.Marks.{stampOf, markOf, stamped, unstamped, Marking}
@@ -106,8 +107,8 @@ module _ (R : Rules) (run : List ℕ) (i : ℕ) (before : List ℕ) where
       let is : j ≡ i = omega (arith, h .so-far) in
       let after : ℕ → ℕ = λ q. pick (free R run i q) (getD before q 0) (stampOf i) in
       let same : (q : ℕ) → q < length now → getD now q 0 ≡ getD (tab 1024 after) q 0
-          = λ q l. let inside : q < 1024 = omega (arith, h .long) in
-              h .held q inside ∙ ap (λ m. pick (freeYet R run i m q) (getD before q 0) (stampOf i)) is ∙ sym (tab-at after 1024 q inside) in
+      = λ q l. let inside : q < 1024 = omega (arith, h .long) in
+      h .held q inside ∙ ap (λ m. pick (freeYet R run i m q) (getD before q 0) (stampOf i)) is ∙ sym (tab-at after 1024 q inside) in
       ext-getD 0 now (tab 1024 after) (h .long ∙ sym (tab-length after 1024)) same
 
 -- ---- the search for a partition without the stamp
@@ -140,14 +141,6 @@ module _ (i : ℕ) (stamps : List ℕ) where
       is ∙ sym (least-none (λ q. not (eqb (getD stamps q 0) (stampOf i))) (suc i) (λ k l. taken-fails q (h .taken) k (omega arith)))
 
 -- ---- first fit's partition
-least-same : (P Q : ℕ → Bool) (n : ℕ) → ((k : ℕ) → k < n → P k ≡ Q k) → least n P ≡ least n Q
-unfolding least
-least-same P Q zero h = refl
-least-same P Q (suc n) h =
-    let under : (k : ℕ) → k < n → P k ≡ Q k = λ k l. h k (omega arith) in
-    let here : P n ≡ Q n = h n (omega arith) in
-    rw (least-same P Q n under, here)
-
 -- a stamp is rule i's exactly where the partition is taken
 stamp-tells : (t : Bool) (s i : ℕ) → s ≤ i → not (eqb (pick t s (stampOf i)) (stampOf i)) ≡ t
 stamp-tells true s i le = let other : s ≡ stampOf i → ⊥ = λ e. omega arith in rw (ne-eqb s (stampOf i) other)
@@ -164,3 +157,21 @@ module _ (R : Rules) (run : List ℕ) (i : ℕ) (before : List ℕ) (fresh : (q 
   stamped-fit few =
       least-same (λ q. not (eqb (getD (stamped R run i before) q 0) (stampOf i))) (free R run i) (suc i)
       (λ q l. let lt : q < 1024 = omega arith in rw (stamped-at q lt) (stamp-tells (free R run i q) (getD before q 0) i (fresh q)))
+
+  pub stamped-long : length (stamped R run i before) ≡ 1024
+  unfolding stamped
+  stamped-long = tab-length (λ q. pick (free R run i q) (getD before q 0) (stampOf i)) 1024
+
+  -- no stamp is later than rule i's
+  pub stamped-fresh : (q : ℕ) → getD (stamped R run i before) q 0 ≤ i + 1
+  stamped-fresh q = go (ltb q 1024) refl
+    where
+      either : (t : Bool) → pick t (getD before q 0) (stampOf i) ≤ i + 1
+      either true = omega (arith, fresh q)
+      either false = omega arith
+
+      go : (t : Bool) → ltb q 1024 ≡ t → getD (stamped R run i before) q 0 ≤ i + 1
+      go true e = rw (stamped-at q (ltb-true q 1024 e)) (either (free R run i q))
+      go false e =
+          let past : length (stamped R run i before) ≤ q = omega (arith, stamped-long, ltb-false q 1024 e) in
+          rw (List·getD-eq-default (stamped R run i before) 0 past) (omega arith)

@@ -1,50 +1,54 @@
+-- `sorting::choose::parts_in` meets its contract. At the loop's head b is how many partitions the first i numbers open; the measure is what is left of the run.
+-- Assumes nothing.
+use Prim.Native.Nat.{_≤_, _-_}
+use mathlib.Core.Path.{_≡_, sym, _∙_}
+use lib.ListN.{length}
+use Rattle.sorting.specs.FirstFit.{parts}
+use Rattle.sorting.proofs.Parts.{parts-none}
+use Rattle.sorting.proofs.Choosing.{parts-turn, parts-whole}
+use native.Mathlib.Omega.{arith}
+use borrow.Author.Needs.{needs}
+use Prim.Native.Nat.{_≤_, _-_, _+_, suc}
+use mathlib.Core.Path.{_≡_, sym, ap, _∙_}
+use Rattle.sorting.proofs.Parts.{parts-none, parts-more}
 use Rattle.sorting.proofs.choose.parts_in.Statement.{statement}
 use Rattle.sorting.proofs.choose.parts_in.Tie as tie
-use Rattle.sorting.proofs.choose.parts_in.Reads as reads
-use Rattle.sorting.proofs.choose.parts_in.Lts as lts
-use Rattle.sorting.proofs.choose.larger.Reads as larger-reads
 
 abbrev Inv-loop : tie.InvT-loop
-Inv-loop run b₀ i₀ b i = ?
+Inv-loop run b₀ i₀ b i = (i ≤ length run) × (b ≡ parts run i)
 
 abbrev μ-loop : tie.MeasureT-loop
-μ-loop run b₀ i₀ b i = ?
+μ-loop run b₀ i₀ b i = length run - i
 
--- src/choose.rt:89:5
 loop-holds : tie.Need-loop-holds Inv-loop μ-loop
-loop-holds c = ?
+loop-holds c = (search needs, sym (parts-none _))
 
--- src/choose.rt:90:23
 mul-larger : tie.Need-mul-larger Inv-loop μ-loop
-mul-larger c = ?
+mul-larger c = search needs
 
--- src/choose.rt:90:23
 shared-slice-read-larger : tie.Need-shared-slice-read-larger Inv-loop μ-loop
-shared-slice-read-larger c = ?
+shared-slice-read-larger c = search needs
 
--- src/choose.rt:90:23
 add-larger : tie.Need-add-larger Inv-loop μ-loop
-add-larger c = ?
+add-larger c =
+    let at-test = c .before in
+    let a = at-test .before .before .before in
+    omega (arith, a .pre (at-test .before .loop .i) (at-test .loop-test .taken))
 
--- src/choose.rt:90:9
 larger-requires : tie.Need-larger-requires Inv-loop μ-loop
-larger-requires c κs = ?
+larger-requires c κs = search needs
 
--- src/choose.rt:91:9
 add-i : tie.Need-add-i Inv-loop μ-loop
-add-i c = ?
+add-i c = search needs
 
--- src/choose.rt:89:5
 loop-less : tie.Need-loop-less Inv-loop μ-loop
-loop-less c = ?
+loop-less c = omega arith
 
--- src/choose.rt:89:5
 loop-again : tie.Need-loop-again Inv-loop μ-loop
-loop-again c = ?
+loop-again c = (search needs, c .larger .ensures ∙ parts-turn _ _ _ (c .before .before .before .loop .inv .1))
 
--- src/choose.rt:83:1
 returns : tie.Need-returns Inv-loop μ-loop
-returns c = ?
+returns c = parts-whole _ _ _ (c .before .loop .inv .1) (c .before .loop .inv .0) (c .loop-test .left)
 
 pub parts-in-spec : {M : Type 1} → statement M
 parts-in-spec =
