@@ -5,7 +5,12 @@ use mathlib.Core.List.{List}
 use mathlib.Core.Path.{_≡_}
 use lib.ListN.{length}
 use Rattle.lists.specs.Rules.{Rules, fieldsOf, rulesIn}
+use Rattle.lists.specs.Faults.{listFault}
 use Rattle.lists.proofs.Rules.{Shaped}
+use Rattle.ranges.specs.Numbers.{tab}
+use Rattle.sorting.specs.FirstFit.{Choice, parts}
+use Rattle.sorting.specs.Layout.{TableFor}
+use Rattle.sorting.specs.Table.{ruleAt}
 
 -- field f of rule i, of a list whose shape stands
 pub record OneField (R : Rules) (i f : ℕ) : Type 0 where
@@ -23,3 +28,20 @@ pub record TwoRules (R : Rules) (i j : ℕ) : Type 0 where
 pub record RunFor (R : Rules) (run : List ℕ) : Type 0 where
   pub shape-stands : Shaped R
   pub one-each : length run ≡ rulesIn R
+
+-- a list that meets none of 1 to 4, and a run that is a choice of partitions for it
+pub record Dealt (R : Rules) (run : List ℕ) : Type 0 where
+  pub no-fault : listFault R .number ≡ 0
+  pub one-each : length run ≡ rulesIn R
+  pub choice : Choice R run (parts run (rulesIn R))
+
+-- the same, with the rules in the order of their places
+pub record SortedOut (R : Rules) (run order : List ℕ) : Type 0 where
+  pub dealt : Dealt R run
+  pub in-order : order ≡ tab (rulesIn R) (ruleAt R run)
+
+-- the same, with how many partitions there are and a table of the right length
+pub record Laying (R : Rules) (run : List ℕ) (b : ℕ) (T : List ℕ) : Type 0 where
+  pub dealt : Dealt R run
+  pub opened : b ≡ parts run (rulesIn R)
+  pub sized : TableFor (rulesIn R) (fieldsOf R) T

@@ -6,3 +6,4 @@ pub mod Opening
 pub mod Promise
 pub mod Asked
 pub mod Marks
+pub mod Laying

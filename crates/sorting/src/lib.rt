@@ -4,5 +4,6 @@
 // what is said of a build, an audit and a report. The crates of the lookup and the programs may cite it; it cites
 // `ranges` and `lists`. What a lookup may rely on is `specs/Promise.antt` alone.
 mod choose;
+mod lay_out;
 pub mod layout;
 pub mod order;
