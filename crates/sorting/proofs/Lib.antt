@@ -10,6 +10,11 @@
 -- Parts: how many partitions a run of partition numbers opens.
 -- Places: the place of a rule, the rule at a place, the starts.
 -- Runs: the stretch of places that a run is, and its ends by neighbouring places.
+-- Reading: what is read of the table of a list and a run of partition numbers.
+-- Kept: the table of any choice of partitions keeps the promise.
+-- FirstFits: first fit is a choice of partitions, and each rule gets the lowest that is free.
+-- Built: the table that the build writes keeps the promise.
+-- Cases: the tables of B1 and B9.
 pub mod Fields
 pub mod Stamps
 pub mod Choosing
@@ -21,3 +26,8 @@ pub mod Counting
 pub mod Parts
 pub mod Places
 pub mod Runs
+pub mod Reading
+pub mod Kept
+pub mod FirstFits
+pub mod Built
+pub mod Cases
