@@ -1,7 +1,7 @@
 -- The loop of `choose`: once the first i rules are taken, the run's first i numbers are first fit's, and no stamp is later than
 -- that of the rules taken. The next rule gets the lowest partition without its stamp (`Stamps.antt`).
 --     parts-turn, parts-whole             how many partitions the first i numbers of a run open
---     fit-length, fit-low                 first fit has a number a rule, none above the rule's own
+--     fit-low                             first fit gives no rule a number above its own
 --     Choosing, choosing-none, choosing-marks, choosing-more, choosing-end
 -- Assumes nothing.
 use Prim.Native.Nat.{ℕ, zero, suc, max, _+_, _≤_, _<_}
@@ -25,6 +25,7 @@ use Rattle.sorting.specs.FirstFit.{partOf, free, fitOf, firstFit, parts,
 use Rattle.sorting.specs.Asked.{RunFor}
 use Rattle.sorting.specs.Marks.{stamped, unstamped, Marking}
 use Rattle.sorting.proofs.Parts.{parts-more}
+use Rattle.sorting.proofs.FirstFits.{fit-least, first-fit-more, first-fit-at, first-fit-same}
 use Rattle.sorting.proofs.Stamps.{stamped-fit, stamped-long, stamped-fresh}
 
 -- ---- how many partitions a run opens
@@ -36,33 +37,18 @@ parts-whole run b i is le ge = let all-of : i ≡ length run = omega arith in is
 
 -- ---- first fit
 module _ (R : Rules) where
-  pub fit-length : (k : ℕ) → length (firstFit R k) ≡ k
-  unfolding firstFit
-  fit-length zero = refl
-  fit-length (suc k) = rw (length-append, fit-length k, add-one)
-
   -- the partition of rule i's own number has no member before it
   own-free : (run : List ℕ) (i : ℕ) → ((j : ℕ) → j < i → partOf run j ≤ j) → free R run i i ≡ true
   own-free run i low =
       all-yes (λ j. not (eqb (partOf run j) i and clash R j i)) i
       (λ j l. let other : partOf run j ≡ i → ⊥ = λ e. omega (arith, low j l) in rw (ne-eqb (partOf run j) i other))
 
-  fit-le : (run : List ℕ) (i : ℕ) → ((j : ℕ) → j < i → partOf run j ≤ j) → fitOf R run i ≤ i
-  unfolding fitOf
-  fit-le run i low = go (ltb i (least (suc i) (free R run i))) refl
-    where
-      go : (t : Bool) → ltb i (least (suc i) (free R run i)) ≡ t → least (suc i) (free R run i) ≤ i
-      go true e = absurd (true-not-false (own-free run i low) (least-under (free R run i) (suc i) i (ltb-true i (least (suc i) (free R run i)) e)))
-      go false e = ltb-false i (least (suc i) (free R run i)) e
-
   pub fit-low : (k j : ℕ) → j < k → partOf (firstFit R k) j ≤ j
-  unfolding firstFit
   fit-low zero j lt = absurd (omega arith)
   fit-low (suc k) j lt =
       ⊎-elim
-      (λ e. rw (getD-at (firstFit R k) (fitOf R (firstFit R k) k) [] 0 j (fit-length k ∙ sym e)) (subst (λ m. fitOf R (firstFit R k) k ≤ m) (sym e) (fit-le (firstFit R k) k (fit-low k))))
-      (λ l. let inside : j < length (firstFit R k) = omega (arith, fit-length k) in
-      rw (List·getD-append (firstFit R k) (fitOf R (firstFit R k) k ∷ []) 0 j inside) (fit-low k j l))
+      (λ e. rw (first-fit-at R (suc k) j lt) (subst (λ m. fitOf R (firstFit R m) m ≤ m) (sym e) (fit-least R (firstFit R k) k k (own-free (firstFit R k) k (fit-low k)))))
+      (λ l. rw (first-fit-same R k (suc k) j l (omega arith)) (fit-low k j l))
       (eq-or-lt-of-le (le-of-suc-le-suc lt))
 
 -- ---- the loop
@@ -110,7 +96,6 @@ module _ {R : Rules} {run stamps : List ℕ} {i : ℕ} (s : Shaped R) (h : Choos
       }
 
   pub choosing-more : {v : ℕ} {after : List ℕ} → after ≡ stamped R (take i run) i stamps → v ≡ unstamped i after → Choosing R (set run i v) after (i + 1)
-  unfolding firstFit
   choosing-more {v} {after} is-after is-v =
       record {
         so-far = omega arith;
@@ -130,7 +115,7 @@ module _ {R : Rules} {run stamps : List ℕ} {i : ℕ} (s : Shaped R) (h : Choos
       fits = is-v ∙ ap (unstamped i) is-after ∙ stamped-fit R (take i run) i stamps (h .fresh) few ∙ ap (λ l. fitOf R l i) (h .chosen)
 
       next : take (i + 1) (set run i v) ≡ firstFit R (i + 1)
-      next = rw (add-one i, take-suc-set run i v inside, h .chosen, fits)
+      next = rw (first-fit-more R i, add-one i, take-suc-set run i v inside, h .chosen, fits)
 
 module _ {R : Rules} {run stamps : List ℕ} {i : ℕ} (h : Choosing R run stamps i) (over : rulesIn R ≤ i) where
   -- every rule is taken

@@ -2,6 +2,9 @@
 -- Fields: how two rules stand to each other, as the code finds it.
 -- Stamps: first fit by stamps.
 -- Choosing: the loop that takes one rule after the other.
+-- Ranks: the loops that count, and each rule at its place.
+-- Putting: numbers written into a table from a place on.
+-- Rows: the runs by neighbouring places, a row of fields at a time.
 -- Offsets: every part of a table lies within it.
 -- Opening: which refusal an opening meets, and what a table is that opens.
 -- Sound: a list with low ≤ high everywhere.
@@ -18,6 +21,9 @@
 pub mod Fields
 pub mod Stamps
 pub mod Choosing
+pub mod Ranks
+pub mod Putting
+pub mod Rows
 pub mod Offsets
 pub mod Opening
 pub mod Sound
