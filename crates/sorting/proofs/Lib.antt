@@ -5,6 +5,7 @@
 -- Ranks: the loops that count, and each rule at its place.
 -- Putting: numbers written into a table from a place on.
 -- Rows: the runs by neighbouring places, a row of fields at a time.
+-- RowByRow: the loops that write the runs, a row of fields at a time.
 -- Offsets: every part of a table lies within it.
 -- Opening: which refusal an opening meets, and what a table is that opens.
 -- Sound: a list with low ≤ high everywhere.
@@ -24,6 +25,7 @@ pub mod Choosing
 pub mod Ranks
 pub mod Putting
 pub mod Rows
+pub mod RowByRow
 pub mod Offsets
 pub mod Opening
 pub mod Sound

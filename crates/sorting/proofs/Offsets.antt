@@ -1,13 +1,16 @@
 -- Laws of the working table's layout (`specs/Layout.antt`): each part lies within a table of the right length. Proofs cite these
 -- and unfold no offset.
 --     opening-inside, order-inside, start-inside, from-inside, to-inside
+--     froms-fit, tos-fit                      so do the rows of runs
 --     start-next, starts-fit, start-within, from-row-at, to-row-at      one partition, one row further
 -- Assumes nothing.
 use Prim.Native.Nat.{ℕ, _+_, _*_, _≤_, _<_}
+use mathlib.Core.List.{List}
 use mathlib.Core.Path.{_≡_}
 use native.Mathlib.Omega.{arith}
 use Rattle.lists.proofs.Rules.{row-inside}
-use Rattle.sorting.specs.Layout.{tableLength, orderAt, startAt, fromAt, toAt}
+use lib.ListN.{length}
+use Rattle.sorting.specs.Layout.{TableFor, tableLength, orderAt, startAt, fromAt, toAt}
 
 module _ (n d : ℕ) where
   -- n, d, b and the first start
@@ -51,3 +54,13 @@ module _ (n d p : ℕ) where
   pub to-row-at : toAt n d p 0 ≡ toAt n d 0 0 + p * d
   unfolding toAt
   to-row-at = omega arith
+
+-- ---- the rows of runs fit the table
+module _ {n d : ℕ} {T : List ℕ} (sized : TableFor n d T) where
+  pub froms-fit : fromAt n d 0 0 + n * d ≤ length T
+  unfolding tableLength fromAt
+  froms-fit = omega (arith, sized .long)
+
+  pub tos-fit : toAt n d 0 0 + n * d ≤ length T
+  unfolding tableLength toAt
+  tos-fit = omega (arith, sized .long)

@@ -40,7 +40,12 @@ pub record SortedOut (R : Rules) (run order : List ℕ) : Type 0 where
   pub dealt : Dealt R run
   pub in-order : order ≡ tab (rulesIn R) (ruleAt R run)
 
--- the same, with how many partitions there are and a table of the right length
+-- the same, with a table of the right length
+pub record RunsFor (R : Rules) (run order T : List ℕ) : Type 0 where
+  pub sorted-out : SortedOut R run order
+  pub sized : TableFor (rulesIn R) (fieldsOf R) T
+
+-- a list and a choice of partitions, with how many there are and a table of the right length
 pub record Laying (R : Rules) (run : List ℕ) (b : ℕ) (T : List ℕ) : Type 0 where
   pub dealt : Dealt R run
   pub opened : b ≡ parts run (rulesIn R)
