@@ -6,6 +6,7 @@
 -- Putting: numbers written into a table from a place on.
 -- Rows: the runs by neighbouring places, a row of fields at a time.
 -- RowByRow: the loops that write the runs, a row of fields at a time.
+-- Laid: the parts of a table, written one after the other, are the whole table.
 -- Offsets: every part of a table lies within it.
 -- Opening: which refusal an opening meets, and what a table is that opens.
 -- Sound: a list with low ≤ high everywhere.
@@ -26,6 +27,7 @@ pub mod Ranks
 pub mod Putting
 pub mod Rows
 pub mod RowByRow
+pub mod Laid
 pub mod Offsets
 pub mod Opening
 pub mod Sound
