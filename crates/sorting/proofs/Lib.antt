@@ -16,6 +16,7 @@
 -- Places: the place of a rule, the rule at a place, the starts.
 -- Runs: the stretch of places that a run is, and its ends by neighbouring places.
 -- Reading: what is read of the table of a list and a run of partition numbers.
+-- Cells: a table is what its parts are.
 -- Kept: the table of any choice of partitions keeps the promise.
 -- FirstFits: first fit is a choice of partitions, and each rule gets the lowest that is free.
 -- Built: the table that the build writes keeps the promise.
@@ -37,6 +38,7 @@ pub mod Parts
 pub mod Places
 pub mod Runs
 pub mod Reading
+pub mod Cells
 pub mod Kept
 pub mod FirstFits
 pub mod Built

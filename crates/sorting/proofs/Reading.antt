@@ -94,13 +94,14 @@ module _ (R : Rules) (run : List ℕ) where
       in-starts at (omega arith) ∙ within (toOrder R run) (tab (rulesIn R + 1) (startOf R run)) (3 + rulesIn R) order-long at lt
 
   -- ---- the parts
+  tos-long : length (toFroms R run ++ byPlace R (runTo R run)) ≡ 4 + rulesIn R * 2 + rulesIn R * fieldsOf R + rulesIn R * fieldsOf R
+  tos-long =
+      let tos = byPlace R (runTo R run) in
+      both-long (toFroms R run) tos (4 + rulesIn R * 2 + rulesIn R * fieldsOf R) froms-long (rulesIn R * fieldsOf R) (by-place-length R (runTo R run))
+
   table-long : length (tableOf R run) ≡ tableLength (rulesIn R) (fieldsOf R)
   unfolding tableOf tableLength
-  table-long =
-      let long =
-      both-long (toFroms R run) (byPlace R (runTo R run)) (4 + rulesIn R * 2 + rulesIn R * fieldsOf R) froms-long (rulesIn R * fieldsOf R)
-      (by-place-length R (runTo R run)) in
-      omega arith
+  table-long = omega (arith, tos-long)
 
   pub table-sized : TableFor (rulesIn R) (fieldsOf R) (tableOf R run)
   table-sized = record { long = table-long }
