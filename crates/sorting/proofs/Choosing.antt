@@ -18,8 +18,7 @@ use lib.ListN.{length, getD, set, take, replicate, length-set, length-append, le
 use lib.Seq.{getD-at, take-all, take-suc-set, length-take-le}
 use Rattle.ranges.specs.Numbers.{_and_, all, least}
 use Rattle.ranges.proofs.Numbers.{true-not-false, all-yes, least-under, least-le}
-use Rattle.lists.specs.Rules.{Rules, rulesIn}
-use Rattle.lists.proofs.Rules.{Shaped}
+use Rattle.lists.specs.Rules.{Rules, rulesIn, Shaped}
 use Rattle.sorting.specs.Order.{clash}
 use Rattle.sorting.specs.FirstFit.{partOf, free, fitOf, firstFit, parts, Chosen}
 use Rattle.sorting.specs.Asked.{RunFor}

@@ -19,8 +19,7 @@ use lib.ListN.{length, getD, set, length-set, List·getD-eq-default}
 use lib.Seq.{getD-set-same, getD-set-other, ext-getD}
 use Rattle.ranges.specs.Numbers.{pick, _and_, all, least, tab}
 use Rattle.ranges.proofs.Numbers.{true-not-false, all-yes, least-is, least-none, least-under, least-le, tab-length, tab-at}
-use Rattle.lists.specs.Rules.{Rules, rulesIn}
-use Rattle.lists.proofs.Rules.{Shaped}
+use Rattle.lists.specs.Rules.{Rules, rulesIn, Shaped}
 use Rattle.sorting.proofs.Counting.{least-same}
 use Rattle.sorting.specs.Order.{clash}
 use Rattle.sorting.specs.FirstFit.{partOf, free, fitOf}

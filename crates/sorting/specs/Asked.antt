@@ -4,9 +4,8 @@ use Prim.Native.Nat.{ℕ, _<_}
 use mathlib.Core.List.{List}
 use mathlib.Core.Path.{_≡_}
 use lib.ListN.{length}
-use Rattle.lists.specs.Rules.{Rules, fieldsOf, rulesIn}
+use Rattle.lists.specs.Rules.{Rules, fieldsOf, rulesIn, Shaped}
 use Rattle.lists.specs.Faults.{listFault}
-use Rattle.lists.proofs.Rules.{Shaped}
 use Rattle.ranges.specs.Numbers.{tab}
 use Rattle.sorting.specs.FirstFit.{Choice, parts}
 use Rattle.sorting.specs.Layout.{TableFor}

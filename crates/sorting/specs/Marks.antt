@@ -9,8 +9,7 @@ use mathlib.Core.Path.{_≡_}
 use lib.ListN.{length, getD}
 use lib.Dec.{eqb}
 use Rattle.ranges.specs.Numbers.{pick, least, tab}
-use Rattle.lists.specs.Rules.{Rules, rulesIn}
-use Rattle.lists.proofs.Rules.{Shaped}
+use Rattle.lists.specs.Rules.{Rules, rulesIn, Shaped}
 use Rattle.sorting.specs.Order.{clash}
 use Rattle.sorting.specs.FirstFit.{partOf, free}
 
