@@ -7,6 +7,8 @@
 -- Rows: the runs by neighbouring places, a row of fields at a time.
 -- RowByRow: the loops that write the runs, a row of fields at a time.
 -- Laid: the parts of a table, written one after the other, are the whole table.
+-- Building: which of 1 to 5 a list and a table meet, and what is written where they meet none.
+-- Auditing: two runs with the same numbers, and the answer of an audit.
 -- Offsets: every part of a table lies within it.
 -- Opening: which refusal an opening meets, and what a table is that opens.
 -- Sound: a list with low ≤ high everywhere.
@@ -29,6 +31,8 @@ pub mod Putting
 pub mod Rows
 pub mod RowByRow
 pub mod Laid
+pub mod Building
+pub mod Auditing
 pub mod Offsets
 pub mod Opening
 pub mod Sound

@@ -49,3 +49,8 @@ pub record Laying (R : Rules) (run : List ℕ) (b : ℕ) (T : List ℕ) : Type 0
   pub dealt : Dealt R run
   pub opened : b ≡ parts run (rulesIn R)
   pub sized : TableFor (rulesIn R) (fieldsOf R) T
+
+-- a list that meets none of 1 to 4, and a table of the right length
+pub record Buildable (R : Rules) (T : List ℕ) : Type 0 where
+  pub no-fault : listFault R .number ≡ 0
+  pub sized : TableFor (rulesIn R) (fieldsOf R) T

@@ -7,3 +7,5 @@ pub mod Promise
 pub mod Asked
 pub mod Marks
 pub mod Laying
+pub mod Build
+pub mod Report

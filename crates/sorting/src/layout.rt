@@ -8,13 +8,14 @@ use ranges::refusal::BROKEN_TABLE;
 use ranges::refusal::Refusal;
 use ranges::refusal::refuse;
 ghost use mathlib.Core.Path.{_≡_};
-ghost use mathlib.Core.List.{[], _∷_};
-ghost use Prim.Native.Nat.{_≤_};
-ghost use lib.ListN.{length};
 ghost use Rattle.lists.specs.Rules.{listed};
-ghost use Rattle.sorting.specs.Layout.{tableLength, rulesAt, orderAt, startAt, fromAt, toAt, view, TableFor};
-ghost use Rattle.sorting.specs.Laying.{put};
+ghost use Rattle.sorting.specs.Layout.{tableLength, orderAt, startAt, fromAt, toAt, view, TableFor};
 ghost use Rattle.sorting.specs.Opening.{opening, openFault};
+
+// Where n, d and b stand.
+pub const RULES_AT: usize = 0;
+pub const FIELDS_AT: usize = 1;
+pub const PARTS_AT: usize = 2;
 
 // Gives the length of a table of n rules of d fields.
 pub fn table_length(n: u16, d: u16) -> usize
@@ -51,29 +52,19 @@ pub fn to_at(n: u16, d: u16, p: u16, f: u16) -> usize
     4 + n as usize * 2 + n as usize * d as usize + (p as usize * d as usize + f as usize)
 }
 
-// Writes n, d and b; the rest of the table stays.
-pub fn write_head(n: u16, d: u16, b: u16, table: &mut [u16])
-    requires { ⌜ 3 ≤ length (now table) ⌝ }
-    ensures { λ _. ⌜ now (table .exit) ≡ put (now (table .entry)) rulesAt (n ∷ d ∷ b ∷ []) ⌝ }
-{
-    table[0] = n;
-    table[1] = d;
-    table[2] = b;
-}
-
 // Says whether a table of the right length for n rules of d fields opens: its first two numbers are n and d, b is
 // at most n, its first start is 0, and its start number b is n.
 fn opens(n: u16, d: u16, table: &[u16]) -> bool
     requires { ⌜ TableFor n d (now table) ⌝ }
     ensures { λ r. ⌜ r ≡ opening n d (view n d (now (table .entry))) ⌝ }
 {
-    if table[0] != n {
+    if table[RULES_AT] != n {
         return false;
     }
-    if table[1] != d {
+    if table[FIELDS_AT] != d {
         return false;
     }
-    let b = table[2];
+    let b = table[PARTS_AT];
     if n < b {
         return false;
     }
