@@ -9,6 +9,7 @@
 -- Laid: the parts of a table, written one after the other, are the whole table.
 -- Building: which of 1 to 5 a list and a table meet, and what is written where they meet none.
 -- Auditing: two runs with the same numbers, and the answer of an audit.
+-- Reporting: the report on a partition, as the code works it out.
 -- Offsets: every part of a table lies within it.
 -- Opening: which refusal an opening meets, and what a table is that opens.
 -- Sound: a list with low ≤ high everywhere.
@@ -33,6 +34,7 @@ pub mod RowByRow
 pub mod Laid
 pub mod Building
 pub mod Auditing
+pub mod Reporting
 pub mod Offsets
 pub mod Opening
 pub mod Sound
