@@ -2,9 +2,8 @@
 --     match-said-one, pair-said-one     two answers that say the same are one
 --     picked, not-picked                which way a test went, from the answer that it led to
 -- Assumes nothing.
-use Prim.Native.Nat.{ℕ}
 use mathlib.Core.Bool.{Bool, true, false}
-use mathlib.Core.List.{List, [], _∷_}
+use mathlib.Core.List.{[], _∷_}
 use mathlib.Core.Path.{_≡_, refl, ap}
 use Rattle.ranges.specs.Numbers.{pick}
 use Rattle.ranges.specs.Refusals.{none}

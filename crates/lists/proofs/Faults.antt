@@ -7,9 +7,9 @@
 --     shape-of, ends-of                                          a list that meets none of 1 to 4 meets none of 1, 2, 3, and not 4
 --     by-refused, by-stands, by-shaped, by-listed                the same, of a refusal as worked out by a callee
 -- Assumes nothing.
-use Prim.Native.Nat.{ℕ, _*_, _%_, _/_, _≤_, _<_}
+use Prim.Native.Nat.{ℕ, _*_, _%_, _≤_, _<_}
 use mathlib.Core.Bool.{Bool, true, false, not}
-use mathlib.Core.Path.{_≡_, refl, sym, ap, _∙_}
+use mathlib.Core.Path.{_≡_, refl, sym}
 use native.Mathlib.Omega.{arith}
 use lib.ListN.{length}
 use lib.Dec.{ltb, eqb}

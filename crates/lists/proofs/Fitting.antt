@@ -6,14 +6,11 @@
 --     fits-same, first-same                 only the first d numbers of a header are read
 -- Assumes nothing.
 use Prim.Native.Nat.{ℕ, _+_, _≤_, _<_}
-use mathlib.Core.Bool.{Bool, true, false, not}
+use mathlib.Core.Bool.{Bool, true, false}
 use mathlib.Core.List.{List}
-use mathlib.Core.Path.{_≡_, refl, sym, ap, _∙_}
-use native.Mathlib.Omega.{arith}
+use mathlib.Core.Path.{_≡_, sym, ap, _∙_}
 use lib.ListN.{length, getD}
-use lib.Dec.{ltb}
 use borrow.Author.Tests.{lt-ltb, le-ltb}
-use Rattle.ranges.specs.Numbers.{pick, _and_, _or_, all, least}
 use Rattle.ranges.specs.Sides.{sideOf, isInside}
 use Rattle.ranges.specs.declared.side.Side.{Side}
 use Rattle.ranges.proofs.Numbers.{all-yes, all-at}
@@ -21,7 +18,6 @@ use Rattle.ranges.proofs.Sides.{inside-yes, inside-at}
 use Rattle.lists.specs.Rules.{Rules, fieldsOf, rulesIn, cellOf, lowOf, highOf, endsAt}
 use Rattle.lists.specs.FirstMatch.{sideAt, insideAt, fits, firstMatch}
 use Rattle.lists.specs.Scan.{fitsIn, matchOf}
-use Rattle.lists.specs.declared.scan.Match.{Match}
 use Rattle.lists.specs.declared.scan.Match.the-variants.{Rule, Nothing}
 use Rattle.lists.proofs.Rules.{low-read, high-read, rule-within, rule-past}
 use Rattle.lists.proofs.Search.{all-same, least-same}

@@ -7,22 +7,21 @@
 --     partner-meets, partner-past, paired-past      what the least pair is
 -- Assumes nothing.
 use Prim.Native.Nat.{ℕ, zero, suc, max, _+_, _≤_, _<_, suc-le-suc}
-use mathlib.Core.Bool.{Bool, true, false, not}
+use mathlib.Core.Bool.{Bool, true, false}
 use mathlib.Core.List.{List}
-use mathlib.Core.Path.{_≡_, refl, sym, ap, _∙_}
+use mathlib.Core.Path.{_≡_, refl, sym}
 use native.Mathlib.Omega.{arith}
-use lib.ListN.{length, getD}
+use lib.ListN.{getD}
 use lib.Dec.{ltb, leb}
 use native.Mathlib.Nat.{le-max-left, le-max-right, max-le, le-of-suc-le-suc}
 use borrow.Author.Tests.{lt-ltb, le-ltb, ltb-true, ltb-false, leb-true, leb-false}
-use Rattle.ranges.specs.Numbers.{pick, _and_, all, least, tab}
+use Rattle.ranges.specs.Numbers.{least, tab}
 use Rattle.ranges.specs.Sides.{endOf}
 use Rattle.ranges.proofs.Numbers.{and-left, and-right, and-both, all-yes, all-at, least-hit, least-under, tab-at}
 use Rattle.ranges.proofs.Sides.{past-high, within-high}
 use Rattle.lists.specs.Rules.{Rules, fieldsOf, rulesIn, cellOf, lowOf, highOf, endsAt}
 use Rattle.lists.specs.FirstMatch.{fits}
 use Rattle.lists.specs.Independence.{meetAt, meet, partners, partnerOf, hasPartner, paired, pairOf}
-use Rattle.lists.specs.declared.independence.Pair.{Pair}
 use Rattle.lists.specs.declared.independence.Pair.the-variants.{Independent, Both}
 use Rattle.lists.proofs.Rules.{low-read, high-read}
 use Rattle.lists.proofs.Search.{Told, told-more, told-least, told-end}

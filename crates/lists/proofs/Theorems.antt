@@ -4,6 +4,7 @@
 --         check-4-iff           it refuses by 4 at (i, f) exactly when the shape stands, low > high there, and in no rule or field before
 --     T7  scan-rule-iff         a scan answers rule i exactly when none of 1 to 4 applies, i fits, and no rule before i fits
 --         scan-nothing-iff      it answers none exactly when none of 1 to 4 applies and no rule fits
+--         rule-fits-iff         one rule's test answers yes exactly when d is 1 to 8, the list has the rule, and all d numbers are in its ranges
 --         scan-unread           headers that agree on the first d numbers get the same answer; `fits-in-unread`: of one rule, too
 --     T8  independent-iff       the answer is yes exactly when none of 1 to 4 applies and no header at all fits two different rules
 --         pair-iff              it is the pair (i, j) exactly when a header fits both, and no pair before (i, j) is fitted by one
@@ -13,34 +14,31 @@
 -- statement is one on the function. A header is any list of numbers: what is said of every header holds of eight of 32 bits.
 -- Assumes nothing.
 use Prim.Native.Nat.{ℕ, max, _^_, _≤_, _<_}
-use mathlib.Core.Bool.{Bool, true, false}
+use mathlib.Core.Bool.{Bool, true, false, not}
 use mathlib.Core.List.{List}
 use mathlib.Core.Logic.{_↔_}
-use mathlib.Core.Path.{_≡_, refl, sym, ap, _∙_}
+use mathlib.Core.Path.{_≡_, refl, sym, ap}
 use native.Mathlib.Omega.{arith}
 use lib.Dec.{ltb}
 use lib.ListN.{length, getD}
-use borrow.Author.Tests.{lt-ltb, le-ltb, ltb-true, ltb-false, le-leb, lt-leb, leb-true, leb-false, eqb-true}
-use Rattle.ranges.specs.Numbers.{pick, _and_, least}
-use Rattle.ranges.specs.Refusals.{none, stands, refusing, refusedAt, LowAboveHigh}
+use borrow.Author.Tests.{lt-ltb, le-ltb, ltb-true, ltb-false, le-leb, lt-leb, leb-true, leb-false, eqb-true, not-true}
+use Rattle.ranges.specs.Numbers.{_and_, _or_, least}
+use Rattle.ranges.specs.Refusals.{none, stands, refusedAt, LowAboveHigh}
 use Rattle.ranges.specs.declared.refusal.Refusal.{Refusal}
-use Rattle.ranges.specs.declared.refusal.Count.{Count}
 use Rattle.ranges.specs.declared.refusal.Count.the-variants.{Is, Refused as CountRefused}
-use Rattle.ranges.proofs.Numbers.{never, true-not-false, least-is, least-none, least-hit, least-under, tab-length, tab-at}
+use Rattle.ranges.proofs.Numbers.{never, and-left, and-right, true-not-false, least-is, least-none, least-hit, least-under, tab-length, tab-at}
 use Rattle.lists.specs.Rules.{Rules, Shaped, fieldsOf, rulesIn, cellOf, lowOf, endsAt, isVoid}
 use Rattle.lists.specs.Faults.{shapeFault, endsFault, listFault, badRule}
 use Rattle.lists.specs.Check.{checkOf}
 use Rattle.lists.specs.FirstMatch.{fits, firstMatch}
 use Rattle.lists.specs.Scan.{fitsIn, matchOf, scanOf}
 use Rattle.lists.specs.Independence.{meet, partners, partnerOf, hasPartner, paired, pairOf, independenceOf}
-use Rattle.lists.specs.declared.scan.Match.{Match}
 use Rattle.lists.specs.declared.scan.Match.the-variants.{Rule, Nothing, Refused as MatchRefused}
-use Rattle.lists.specs.declared.independence.Pair.{Pair}
 use Rattle.lists.specs.declared.independence.Pair.the-variants.{Independent, Both, Refused as PairRefused}
 use Rattle.lists.proofs.Search.{Told}
 use Rattle.lists.proofs.Faults.{shape-stands, shaped, shape-few, shape-of, ends-of}
 use Rattle.lists.proofs.Voids.{bad, bad-field, ends-4, ends-stands, SoundRule, not-bad, sound-not-bad, ends-sound}
-use Rattle.lists.proofs.Fitting.{fits-same, first-same}
+use Rattle.lists.proofs.Fitting.{Inside, fits-inside, inside-fits, fits-same, first-same}
 use Rattle.lists.proofs.Meeting.{sharedHeader, max-lt, fits-meet, meet-fits, partner-meets, partner-past, paired-past}
 use Rattle.lists.proofs.Answers.{picked, not-picked}
 
@@ -184,6 +182,38 @@ module _ (R : Rules) (h : List ℕ) where
             (stands-sound R (told .0), λ k lt. least-under (fits R h) n k (omega arith)),
         λ p. rw (sound-none R (p .0), least-none (fits R h) n (p .1), le-ltb n n (omega arith)),
       )
+
+-- rule i is one of the list, and low ≤ number ≤ high in all d fields
+pub record FitsRule (R : Rules) (h : List ℕ) (i : ℕ) : Type 0 where
+  pub some-fields : 1 ≤ fieldsOf R
+  pub few-fields : fieldsOf R ≤ 8
+  pub rule : i < rulesIn R
+  pub inside : (f : ℕ) → f < fieldsOf R → Inside R h i f
+
+or-none : (s t : Bool) → s or t ≡ false → (s ≡ false) × (t ≡ false)
+or-none true t e = never (cc)
+or-none false t e = (refl, e)
+
+-- what a yes of `rule_fits` tells, and when it is given; a lookup confirms its candidate by it
+pub rule-fits-iff : (R : Rules) (h : List ℕ) (i : ℕ) → (fitsIn R h i ≡ true) ↔ FitsRule R h i
+unfolding fitsIn
+rule-fits-iff R h i =
+    let few = ltb (fieldsOf R) 1 in
+    let many = ltb 8 (fieldsOf R) in
+    let rule = ltb i (rulesIn R) in (
+      λ e.
+          let fields = or-none few many (not-true (few or many) (and-left (not (few or many)) (rule and fits R h i) e)) in
+          let rest = and-right (not (few or many)) (rule and fits R h i) e in
+          record {
+            some-fields = ltb-false (fieldsOf R) 1 (fields .0);
+            few-fields = ltb-false 8 (fieldsOf R) (fields .1);
+            rule = ltb-true i (rulesIn R) (and-left rule (fits R h i) rest);
+            inside = fits-inside R h i (and-right rule (fits R h i) rest);
+          },
+      λ p.
+          rw (le-ltb (fieldsOf R) 1 (p .some-fields), le-ltb 8 (fieldsOf R) (p .few-fields), lt-ltb i (rulesIn R) (p .rule))
+          (inside-fits R h i (p .inside)),
+    )
 
 -- a header's numbers past d alter nothing
 module _ (R : Rules) (h g : List ℕ) (agree : (f : ℕ) → f < fieldsOf R → getD h f 0 ≡ getD g f 0) where
