@@ -6,30 +6,36 @@
 --     fault-starts, fault-rules, fault-fine      6 for a partition
 --     report-open, report-7, report-part, Reported, reported      the refusals of a report, and what is not refused
 --     by-open, by-opened, by-7, by-part, by-reported, by-answer   the same, as the code works it out
+--     smallest-le, smallest-at                   the smallest of several numbers
+--     report-none, seven-how, part-ends, rules-below      what is not refused, and 7
 --     part-within                                what a partition is that is not broken by its starts
 -- Assumes nothing.
-use Prim.Native.Nat.{ℕ, suc, min, _+_, _-_, _≤_, _<_}
+use Prim.Native.Nat.{ℕ, zero, suc, min, _+_, _-_, _≤_, _<_}
 use mathlib.Core.Bool.{Bool, true, false}
 use mathlib.Core.List.{List}
 use mathlib.Core.Path.{_≡_, refl, sym, ap, _∙_, subst}
+use mathlib.Core.Logic.{_⊎_, inl, inr, ⊎-elim}
 use native.Mathlib.Omega.{arith}
+use native.Mathlib.Nat.{eq-or-lt-of-le, le-of-suc-le-suc}
 use native.Mathlib.Numerals.{add-one}
 use lib.ListN.{length, getD}
-use lib.Dec.{ltb, leb}
-use borrow.Author.Tests.{lt-ltb, le-ltb, eq-eqb, ne-eqb, ltb-true, leb-true, eqb-true}
+use lib.Dec.{ltb, leb, eqb}
+use borrow.Author.Tests.{lt-ltb, le-ltb, le-leb, eq-eqb, ne-eqb, ltb-true, ltb-false, leb-true, eqb-true}
 use Rattle.ranges.specs.Numbers.{pick, _and_, all}
-use Rattle.ranges.specs.Refusals.{none, refused, stands, BrokenTable, NoSuchPartition}
+use Rattle.ranges.specs.Refusals.{none, refused, orElse, stands, BadTableLength, BrokenTable, NoSuchPartition}
 use Rattle.ranges.specs.declared.refusal.Refusal.{Refusal}
-use Rattle.ranges.proofs.Numbers.{true-not-false, and-left, and-right, all-yes, all-no}
+use Rattle.ranges.proofs.Numbers.{true-not-false, and-left, and-right, all-yes, all-at, all-no}
 use Rattle.lists.specs.Rules.{Rules, fieldsOf, rulesIn, Shaped}
-use Rattle.sorting.specs.Layout.{View, TableFor, orderAt, startAt}
-use Rattle.sorting.specs.Opening.{partStands, viewOf, openFault}
+use Rattle.lists.specs.Faults.{shapeFault}
+use Rattle.lists.proofs.Faults.{shape-few, shape-stands}
+use Rattle.sorting.specs.Layout.{View, TableFor, tableLength, orderAt, startAt}
+use Rattle.sorting.specs.Opening.{opening, partStands, viewOf, openFault}
 use Rattle.sorting.specs.Asked.{PartOf, PartWithin}
 use Rattle.sorting.specs.Report.{smallest, placesIn, sizeOf, rulesStand, leastRule, partFault, reportFault, reportOf}
 use Rattle.sorting.specs.declared.report.Part.{Part}
 use Rattle.sorting.specs.declared.report.Part.the-variants.{Is, Refused}
 use Rattle.sorting.proofs.Offsets.{order-inside, start-inside}
-use Rattle.sorting.proofs.Opening.{Opened, opened}
+use Rattle.sorting.proofs.Opening.{Opened, opened, open-stands}
 
 -- ---- where a partition stands in the table
 module _ {n : ℕ} {T : List ℕ} {q : ℕ} (of : PartOf n T q) where
@@ -201,3 +207,99 @@ module _ (R : Rules) (T : List ℕ) (q : ℕ) (x : Refusal) (is-x : x ≡ report
 
     pub by-answer : {size least : ℕ} → size ≡ sizeOf (placesIn m T) q → least ≡ leastRule m (placesIn m T) q → Is size least ≡ reportOf R T q
     by-answer is-size is-least = rw (← is-x, eq-eqb (x .number) 0 z, is-size, is-least, is-m)
+
+-- ---- the smallest of several numbers
+-- it is at most each of them, and it is one of them where they are below x
+module _ (g : ℕ → ℕ) (x : ℕ) where
+  pub smallest-le : (m k : ℕ) → k < m → smallest g x m ≤ g k
+  unfolding smallest
+  smallest-le zero k lt = absurd (omega arith)
+  smallest-le (suc m) k lt =
+      ⊎-elim
+      (λ e. let same : g k ≡ g m = ap g e in omega arith)
+      (λ l. omega (arith, smallest-le m k l))
+      (eq-or-lt-of-le (le-of-suc-le-suc lt))
+
+  -- it is x, or one of the numbers
+  smallest-how : (m : ℕ) → (smallest g x m ≡ x) ⊎ ((k : ℕ) × (k < m) × (g k ≡ smallest g x m))
+  unfolding smallest
+  smallest-how zero = inl refl
+  smallest-how (suc m) = go (ltb (g m) (smallest g x m)) refl (smallest-how m)
+    where
+      go : (t : Bool) → ltb (g m) (smallest g x m) ≡ t → (smallest g x m ≡ x) ⊎ ((k : ℕ) × (k < m) × (g k ≡ smallest g x m))
+          → (min (smallest g x m) (g m) ≡ x) ⊎ ((k : ℕ) × (k < suc m) × (g k ≡ min (smallest g x m) (g m)))
+      go true e how =
+          let under = ltb-true (g m) (smallest g x m) e in
+          inr (m, omega arith, omega arith)
+      go false e (inl is) =
+          let over = ltb-false (g m) (smallest g x m) e in
+          inl (omega arith)
+      go false e (inr (k, lt, is)) =
+          let over = ltb-false (g m) (smallest g x m) e in
+          inr (k, omega arith, omega arith)
+
+  pub smallest-at : (m : ℕ) → 0 < m → ((k : ℕ) → k < m → g k < x) → (k : ℕ) × (k < m) × (g k ≡ smallest g x m)
+  smallest-at m some below = go (smallest-how m)
+    where
+      go : (smallest g x m ≡ x) ⊎ ((k : ℕ) × (k < m) × (g k ≡ smallest g x m)) → (k : ℕ) × (k < m) × (g k ≡ smallest g x m)
+      go (inl is) = absurd (omega (arith, below 0 some, smallest-le m 0 some))
+      go (inr at) = at
+
+-- ---- what is not refused, and 7
+-- a list and a table that open meet none of the opening's refusals
+opened-none : {R : Rules} {T : List ℕ} → Opened R T → openFault R T ≡ none
+unfolding opening
+opened-none {R} {T} h =
+    let v = viewOf R T in
+    let s = h .shape-stands in
+    let shape = shape-stands R (s .some-fields) (s .few-fields) (sym (s .whole)) (s .few-rules) in
+    open-stands R T (ap (λ (x : Refusal). x .number) shape) (h .sized .long)
+    (rw (
+      eq-eqb (v .n) (rulesIn R) (h .rules),
+      eq-eqb (v .d) (fieldsOf R) (h .fields),
+      le-leb (v .b) (rulesIn R) (h .few-parts),
+      eq-eqb (v .start 0) 0 (h .first-start),
+      eq-eqb (v .start (v .b)) (rulesIn R) (h .last-start),
+    ))
+
+pub report-none : {R : Rules} {T : List ℕ} {q : ℕ} → Reported R T q → reportFault R T q ≡ none
+report-none {R} {T} {q} h =
+    report-part R T q (ap (λ (x : Refusal). x .number) (opened-none (h .opens))) (h .part)
+    ∙ fault-fine (rulesIn R) (viewOf R T) q (h .starts) (h .rules)
+
+-- the opening refuses by 1, 2, 3, 5 and 6 alone
+open-few : (R : Rules) (T : List ℕ) → openFault R T .number ≤ 6
+unfolding openFault
+open-few R T = go (stands (shapeFault R)) (eqb (length T) (tableLength (rulesIn R) (fieldsOf R))) (opening (rulesIn R) (fieldsOf R) (viewOf R T))
+  where
+    go : (a e g : Bool) → (pick a (orElse (pick e none (refused BadTableLength)) (pick g none (refused BrokenTable))) (shapeFault R)) .number ≤ 6
+    go false e g = omega (arith, shape-few R)
+    go true false g = omega arith
+    go true true true = omega arith
+    go true true false = omega arith
+
+-- 7 is given where the table opens and the partition number is b or more
+pub seven-how : (R : Rules) (T : List ℕ) (q : ℕ) → reportFault R T q .number ≡ 7 → (openFault R T .number ≡ 0) × (viewOf R T .b ≤ q)
+unfolding reportFault partFault
+seven-how R T q = go (stands (openFault R T)) refl (ltb q (viewOf R T .b)) refl (partStands (rulesIn R) (viewOf R T) q and rulesStand (rulesIn R) (viewOf R T) q)
+  where
+    go : (a : Bool) → stands (openFault R T) ≡ a → (b : Bool) → ltb q (viewOf R T .b) ≡ b → (s : Bool)
+        → (pick a (pick b (pick s none (refused BrokenTable)) (refused NoSuchPartition)) (openFault R T)) .number ≡ 7
+        → (openFault R T .number ≡ 0) × (viewOf R T .b ≤ q)
+    go false p b u s z = absurd (omega (arith, open-few R T))
+    go true p true u true z = absurd (omega arith)
+    go true p true u false z = absurd (omega arith)
+    go true p false u s z = (eqb-true (openFault R T .number) 0 p, ltb-false q (viewOf R T .b) u)
+
+-- what is not refused: the partition has a place, and its rule numbers are below n
+module _ {R : Rules} {T : List ℕ} {q : ℕ} (h : Reported R T q) where
+  pub part-ends : viewOf R T .start q < viewOf R T .start (suc q)
+  part-ends =
+      let s = viewOf R T .start q in
+      let t = viewOf R T .start (suc q) in
+      ltb-true s t (and-left (ltb s t) (leb t (rulesIn R)) (h .starts))
+
+  pub rules-below : (k : ℕ) → k < sizeOf (viewOf R T) q → viewOf R T .order (viewOf R T .start q + k) < rulesIn R
+  rules-below k lt =
+      ltb-true (viewOf R T .order (viewOf R T .start q + k)) (rulesIn R)
+      (all-at (λ k. ltb (viewOf R T .order (viewOf R T .start q + k)) (rulesIn R)) (sizeOf (viewOf R T) q) (h .rules) k lt)
