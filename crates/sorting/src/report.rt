@@ -94,10 +94,10 @@ fn least_rule(n: u16, table: &[u16], q: u16) -> u16
     ensures { λ r. ⌜ r ≡ leastRule n (placesIn n (now (table .entry))) q ⌝ }
 {
     let s = start_in(n, table, q);
-    let m = part_size(n, table, q);
+    let size = part_size(n, table, q);
     let mut least = n;
     let mut k: u16 = 0;
-    while k < m {
+    while k < size {
         least = smaller(least, rule_in(table, s + k));
         k += 1;
     }

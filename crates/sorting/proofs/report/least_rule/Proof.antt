@@ -10,10 +10,10 @@ use Rattle.sorting.proofs.report.least_rule.Statement.{statement}
 use Rattle.sorting.proofs.report.least_rule.Tie as tie
 
 abbrev Inv-loop : tie.InvT-loop
-Inv-loop n table q s m least₀ k₀ least k = (k ≤ m) × (least ≡ smallest (λ j. placesIn n table .order (s + j)) n k)
+Inv-loop n table q s size least₀ k₀ least k = (k ≤ size) × (least ≡ smallest (λ j. placesIn n table .order (s + j)) n k)
 
 abbrev μ-loop : tie.MeasureT-loop
-μ-loop n table q s m least₀ k₀ least k = m - k
+μ-loop n table q s size least₀ k₀ least k = size - k
 
 start-in-requires : tie.Need-start-in-requires Inv-loop μ-loop
 start-in-requires c κs = start-here (c .before .pre .of)
