@@ -43,7 +43,7 @@ walk-arrive-requires : (t : ℕ) → walk-lts.Need-arrive-requires (claims t) (w
 walk-arrive-requires t c κs =
     let full = c .before .before .before .before in
     let st = full .before in
-    (st .pre .1 .0, (full .if1 .left, st .pre .1 .1 .0 .in-table))
+    (st .pre .1 .0, (full .if1 .left, st .pre .1 .1 .in-table))
 
 -- field d
 walk-returns-2 : (t : ℕ) → walk-lts.Need-returns-2 (claims t) (walk-at t) walk.Post
@@ -56,7 +56,7 @@ walk-one-step-requires t c κs =
     let row = c .before .before in
     let full = row .before .before in
     let st = full .before in
-    (st .pre .1 .0, (st .pre .1 .1 .0, (full .if1 .left, row .if2 .left)))
+    (st .pre .1 .0, record { some = full .if1 .left; in-table = st .pre .1 .1 .in-table; in-row = row .if2 .left })
 
 walk-enum-known-step : (t : ℕ) → walk-lts.Need-enum-known-step (claims t) (walk-at t) walk.Post
 walk-enum-known-step t c = search needs
@@ -89,7 +89,13 @@ walk-walk-requires : (t : ℕ) → walk-lts.Need-walk-requires (claims t) (walk-
 walk-walk-requires t c κs =
     let st = c .before .before .before .before .before .before .before .before .before in
     let less = left-smaller t c in
-    (omega (arith, st .pre .0, less .falls), (st .pre .1 .0, (omega (arith, st .pre .1 .1 .0 .in-table, less .ends, less .field), omega (arith, st .pre .1 .1 .1, less .falls))))
+    let going = st .pre .1 .1 in (
+      omega (arith, st .pre .0, less .falls),
+      (
+        st .pre .1 .0,
+        record { in-table = omega (arith, going .in-table, less .ends); in-row = less .field; few-tests = omega (arith, going .few-tests, less .falls) },
+      ),
+    )
 
 -- a step, and the walk on what it leaves
 walk-returns-4 : (t : ℕ) → walk-lts.Need-returns-4 (claims t) (walk-at t) walk.Post

@@ -38,12 +38,12 @@ returns c =
 run-from-requires : tie.Need-run-from-requires
 run-from-requires c κs =
     let st = c .before .before .before .before .before in
-    from-read (st .pre .0) (midOf (st .args .s) (st .args .e)) (st .args .f) (omega arith) (st .pre .1 .1 .1)
+    from-read (st .pre .0) (midOf (st .args .s) (st .args .e)) (st .args .f) (omega arith) (st .pre .1 .in-row)
 
 run-to-requires : tie.Need-run-to-requires
 run-to-requires c κs =
     let st = c .before .before .before .before .before .before in
-    to-read (st .pre .0) (midOf (st .args .s) (st .args .e)) (st .args .f) (omega arith) (st .pre .1 .1 .1)
+    to-read (st .pre .0) (midOf (st .args .s) (st .args .e)) (st .args .f) (omega arith) (st .pre .1 .in-row)
 
 run-stands-requires : tie.Need-run-stands-requires
 run-stands-requires c κs = search needs
@@ -64,7 +64,7 @@ side-at-requires : tie.Need-side-at-requires
 side-at-requires c κs =
     let under = c .before .before .before .before in
     let st = under .before .before .before .before .before in
-    cell-read (st .pre .0) (under .before .rule-at .result) (st .args .f) (under .if1 .left) (st .pre .1 .1 .1)
+    cell-read (st .pre .0) (under .before .rule-at .result) (st .args .f) (under .if1 .left) (st .pre .1 .in-row)
 
 enum-told : tie.Need-enum-told
 enum-told c = search needs
