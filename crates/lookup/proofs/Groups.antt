@@ -398,6 +398,9 @@ pub record Finds (R : Rules) (v : View) (h : List ℕ) (q : ℕ) (w : Walked) : 
   pub is : w ≡ Ran found tests
   pub finds : (r : ℕ) → InPart v q r → fits R h (v .order r) ≡ true → found ≡ Hit (v .order r)
 
+finds-by : {R : Rules} {v : View} {h : List ℕ} {q : ℕ} {w w′ : Walked} → w ≡ w′ → Finds R v h q w′ → Finds R v h q w
+finds-by same f = record { found = f .found; tests = f .tests; is = same ∙ f .is; finds = f .finds }
+
 -- what a test at a member m leaves: never a broken table, and a group that has the invariant
 record Leaves (R : Rules) (v : View) (h : List ℕ) (q s e f m : ℕ) : Type 0 where
   start : ℕ
@@ -482,10 +485,5 @@ module _ {R : Rules} {v : View} (h : List ℕ) (promise : Promise R v) where
           let row = ltb-true f (fieldsOf R) is-p in
           let l = test-leaves q s e f (midOf s e) held row (omega arith) (omega arith) in
           let less = step-smaller R v h (fieldsOf R) s e f (l .start) (l .end) (l .field) some row (l .step) in
-          let on = rest (l .start) (l .end) (l .field) (t + 1) (omega (arith, less .falls)) (less .field) (l .rest) in
-          record {
-            found = on .found;
-            tests = on .tests;
-            is = walk-on R v h k s e f t some row (l .start) (l .end) (l .field) (l .step) ∙ on .is;
-            finds = on .finds;
-          }
+          finds-by (walk-on R v h k s e f t some row (l .start) (l .end) (l .field) (l .step))
+          (rest (l .start) (l .end) (l .field) (t + 1) (omega (arith, less .falls)) (less .field) (l .rest))

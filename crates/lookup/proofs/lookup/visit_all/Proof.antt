@@ -9,7 +9,7 @@ use Rattle.lists.specs.Rules.{listed}
 use Rattle.sorting.specs.Layout.{view}
 use Rattle.lookup.specs.declared.lookup.Looked.the-variants.{Refused}
 use Rattle.lookup.proofs.Within.{few-rules}
-use Rattle.lookup.proofs.Visits.{Visited, visit-few, visited-none, visited-broken, visited-miss, visited-sooner, visited-later, visited-match, visited-nothing}
+use Rattle.lookup.proofs.Visits.{Visited, told-few, visited-none, visited-broken, visited-miss, visited-sooner, visited-later, visited-match, visited-nothing}
 use Rattle.lookup.proofs.lookup.visit_all.Statement.{statement}
 use Rattle.lookup.proofs.lookup.visit_all.Tie as tie
 use Rattle.lookup.proofs.lookup.visit_all.Reads as reads
@@ -45,7 +45,7 @@ returns c =
     let visited = told .before .before in
     let turn = visited .before in
     ap Refused (c .refuse .ensures)
-    ∙ sym (visited-broken (turn .before .loop .inv) (turn .loop-test .taken) (sym (visited .visit .ensures) ∙ told .enum-told .given .1))
+    ∙ sym (visited-broken (turn .before .loop .inv) (turn .loop-test .taken) _ (visited .visit .ensures) (told .enum-told .given .1))
 
 add-q : tie.Need-add-q Inv-loop μ-loop
 add-q c = search needs
@@ -60,8 +60,8 @@ tests-few c =
     let a = st .args in
     let R = listed (a .shape) (a .list .now) in
     let lent = st .pre .0 in
-    visit-few R (view (a .n) (a .shape .d) (a .table .now)) (a .header .now) (turn .before .loop .q) (few-rules R _ _ lent) (lent .few-fields) _ _
-    (sym (visited .visit .ensures) ∙ ran .walked .given .1)
+    told-few R (view (a .n) (a .shape .d) (a .table .now)) (a .header .now) (turn .before .loop .q) (few-rules R _ _ lent) (lent .few-fields) _ _ _
+    (visited .visit .ensures) (ran .walked .given .1)
 
 cast-total : tie.Need-cast-total Inv-loop μ-loop
 cast-total c = omega (arith, tests-few c)
@@ -88,8 +88,8 @@ loop-again c =
     let visited = ran .before .before in
     let turn = visited .before in
     let lent = turn .before .before .before .before .pre .0 in
-    visited-miss (turn .before .loop .inv) (few-rules _ _ _ lent) (lent .few-fields) (turn .loop-test .taken) _ _
-    (sym (visited .visit .ensures) ∙ ran .walked .given .1) (c .enum-told2 .given .1)
+    visited-miss (turn .before .loop .inv) (few-rules _ _ _ lent) (lent .few-fields) (turn .loop-test .taken) _ _ _
+    (visited .visit .ensures) (ran .walked .given .1) (c .enum-told2 .given .1)
 
 loop-less-2 : tie.Need-loop-less-2 Inv-loop μ-loop
 loop-less-2 c = search needs
@@ -102,8 +102,8 @@ loop-again-2 c =
     let visited = ran .before .before in
     let turn = visited .before in
     let lent = turn .before .before .before .before .pre .0 in
-    visited-sooner (turn .before .loop .inv) (few-rules _ _ _ lent) (lent .few-fields) (turn .loop-test .taken) _ _
-    (sym (visited .visit .ensures) ∙ ran .walked .given .1) _ (hit .found .given .1) (c .if1 .taken)
+    visited-sooner (turn .before .loop .inv) (few-rules _ _ _ lent) (lent .few-fields) (turn .loop-test .taken) _ _ _
+    (visited .visit .ensures) (ran .walked .given .1) _ (hit .found .given .1) (c .if1 .taken)
 
 loop-less-3 : tie.Need-loop-less-3 Inv-loop μ-loop
 loop-less-3 c = search needs
@@ -116,8 +116,8 @@ loop-again-3 c =
     let visited = ran .before .before in
     let turn = visited .before in
     let lent = turn .before .before .before .before .pre .0 in
-    visited-later (turn .before .loop .inv) (few-rules _ _ _ lent) (lent .few-fields) (turn .loop-test .taken) _ _
-    (sym (visited .visit .ensures) ∙ ran .walked .given .1) _ (hit .found .given .1) (c .if1 .left)
+    visited-later (turn .before .loop .inv) (few-rules _ _ _ lent) (lent .few-fields) (turn .loop-test .taken) _ _ _
+    (visited .visit .ensures) (ran .walked .given .1) _ (hit .found .given .1) (c .if1 .left)
 
 cast-t18 : tie.Need-cast-t18 Inv-loop μ-loop
 cast-t18 c = search needs

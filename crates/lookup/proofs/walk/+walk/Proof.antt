@@ -1,17 +1,14 @@
 -- `lookup::walk::walk` meets its contract. The measure is the group's size plus the remaining fields: a test leaves a part of the
--- group without its middle, or goes on to the next field (`Steps.antt`: `step-smaller`). At each way out the tests that
+-- group without its middle, or goes on to the next field (`Steps.antt`: `told-smaller`). At each way out the tests that
 -- led there give that turn of the walk (`Walks.antt`), for every k above the measure.
 -- Assumes nothing.
 use Prim.Native.Nat.{ℕ, _+_, _-_, _<_}
 use borrow.Author.Needs.{needs}
 use borrow.Fn.Kinds.{In}
 use borrow.Fn.PlainCycle.{Measures, is, falls, and}
-use mathlib.Core.Path.{_≡_, refl, sym, _∙_}
+use mathlib.Core.Path.{refl}
 use native.Mathlib.Omega.{arith}
-use Rattle.lists.specs.Rules.{listed}
-use Rattle.sorting.specs.Layout.{view}
-use Rattle.lookup.specs.Walk.{stepOf}
-use Rattle.lookup.proofs.Steps.{Smaller, step-smaller}
+use Rattle.lookup.proofs.Steps.{Smaller, told-smaller}
 use Rattle.lookup.proofs.Walks.{every-empty, every-arrives, every-breaks, every-on}
 use Rattle.lookup.proofs.walk.walk.Reads as walk
 use Rattle.lookup.proofs.walk.walk.Kinds as walk-kinds
@@ -69,7 +66,7 @@ walk-returns-3 : (t : ℕ) → walk-lts.Need-returns-3 (claims t) (walk-at t) wa
 walk-returns-3 t c =
     let step = c .before .before in
     let row = step .before .before .before in
-    every-breaks _ _ _ _ _ _ _ _ _ (row .before .before .if1 .left) (row .if2 .left) (sym (step .one-step .ensures) ∙ c .enum-told .given .1) refl
+    every-breaks _ _ _ _ _ _ _ _ _ (row .before .before .if1 .left) (row .if2 .left) _ (step .one-step .ensures) (c .enum-told .given .1) refl
 
 walk-add-walk : (t : ℕ) → walk-lts.Need-add-walk (claims t) (walk-at t) walk.Post
 walk-add-walk t c = search needs
@@ -83,7 +80,7 @@ left-smaller t c =
     let step = c .before .before .before in
     let row = step .before .before .before in
     let a = row .before .before .before .args in
-    step-smaller _ _ _ (a .shape .d) (a .s) (a .e) (a .f) _ _ _ (row .before .before .if1 .left) (row .if2 .left) (sym (step .one-step .ensures) ∙ c .before .step .given .1)
+    told-smaller _ _ _ _ (a .shape .d) (a .s) (a .e) (a .f) _ _ _ (row .before .before .if1 .left) (row .if2 .left) (step .one-step .ensures) (c .before .step .given .1)
 
 walk-walk-requires : (t : ℕ) → walk-lts.Need-walk-requires (claims t) (walk-at t) walk.Post
 walk-walk-requires t c κs =
@@ -103,7 +100,7 @@ walk-returns-4 t c =
     let went = c .before .before in
     let step = went .before .before in
     let row = step .before .before .before in
-    every-on _ _ _ _ _ _ _ _ _ (row .before .before .if1 .left) (row .if2 .left) _ _ _ _ (sym (step .one-step .ensures) ∙ went .step .given .1)
+    every-on _ _ _ _ _ _ _ _ _ (row .before .before .if1 .left) (row .if2 .left) _ _ _ _ _ (step .one-step .ensures) (went .step .given .1)
     (left-smaller t (c .before) .falls) (c .walk .ensures)
 
 pub +walk-spec : {M : Type 1} → statement M
