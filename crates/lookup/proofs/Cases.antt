@@ -6,8 +6,8 @@
 use Prim.Native.Nat.{ℕ}
 use mathlib.Core.Bool.{Bool, true, false}
 use mathlib.Core.List.{List, [], _∷_}
-use lib.Dec.{T, eqb, ltb, leb}
-use Rattle.ranges.specs.Numbers.{pick, _and_, all, count, least, greatest, tab}
+use lib.Dec.{T, eqb}
+use Rattle.ranges.specs.Numbers.{_and_, all, count, least, greatest, tab}
 use Rattle.ranges.specs.Refusals.{Said}
 use Rattle.ranges.specs.Sides.{endOf, sideOf}
 use Rattle.lists.specs.Rules.{rulesIn, cellOf, lowOf, highOf}

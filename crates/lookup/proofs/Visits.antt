@@ -4,7 +4,7 @@
 --     from-none, from-broken, from-on          no partition left; a broken one; one visited
 --     Visited, visited-..                      what `visit_all` keeps at its loop's head, its turn and its ways out
 -- Assumes nothing.
-use Prim.Native.Nat.{ℕ, zero, suc, _+_, _-_, _*_, min, _≤_, _<_}
+use Prim.Native.Nat.{ℕ, suc, _+_, _-_, _*_, min, _≤_, _<_}
 use mathlib.Core.Bool.{Bool, true, false}
 use mathlib.Core.List.{List}
 use mathlib.Core.Path.{_≡_, refl, sym, ap, _∙_}
@@ -17,14 +17,12 @@ use Rattle.ranges.specs.Refusals.{refused, BrokenTable}
 use Rattle.ranges.proofs.Numbers.{never}
 use Rattle.lists.specs.Rules.{Rules, fieldsOf, rulesIn}
 use Rattle.sorting.specs.Layout.{View}
-use Rattle.sorting.specs.Opening.{partStands}
 use Rattle.lookup.specs.Walk.{walkFrom}
-use Rattle.lookup.specs.Lookup.{visitOf, better, afterVisit, answerOf, lookupFrom}
+use Rattle.lookup.specs.Lookup.{visitOf, better, answerOf, lookupFrom}
 use Rattle.lookup.specs.declared.walk.Found.{Found}
 use Rattle.lookup.specs.declared.walk.Found.the-variants.{Hit, Miss}
 use Rattle.lookup.specs.declared.walk.Walked.{Walked}
 use Rattle.lookup.specs.declared.walk.Walked.the-variants.{Ran, Broken}
-use Rattle.lookup.specs.declared.lookup.Looked.{Looked}
 use Rattle.lookup.specs.declared.lookup.Looked.the-variants.{Rule, Nothing, Refused}
 use Rattle.lookup.proofs.Counts.{walk-few-18}
 

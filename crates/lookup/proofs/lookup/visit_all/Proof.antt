@@ -2,7 +2,7 @@
 -- the answer (`Visits.antt`: `Visited`); the measure is how many are left. The total stays small: at most 18 tests a partition.
 -- Assumes nothing.
 use borrow.Author.Needs.{needs}
-use mathlib.Core.Path.{_≡_, refl, sym, ap, _∙_}
+use mathlib.Core.Path.{sym, ap, _∙_}
 use native.Mathlib.Omega.{arith}
 use Prim.Native.Nat.{_-_, _≤_}
 use Rattle.lists.specs.Rules.{listed}
