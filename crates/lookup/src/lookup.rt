@@ -93,6 +93,7 @@ pub fn lookup(shape: Shape, list: &[u32], table: &[u16], header: [u32; 8]) -> Lo
         return Looked::Refused(fault);
     }
     let n = rules_in(shape, list) as u16;
+    // 01, The working table: n, d, b.
     let b = table[2];
     visit_all(shape, n, b, list, table, &header)
 }
