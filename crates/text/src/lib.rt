@@ -9,3 +9,4 @@
 //
 // Writing. Bytes are put at a place of a lent run, and the place after them is answered (`put`).
 pub mod cell;
+pub mod row;
