@@ -1,4 +1,8 @@
 -- Cells: that a cell read byte by byte is what its bytes come to.
 -- Rows: that a line read byte by byte is what its cells come to.
+-- Puts: of bytes put from a place on.
+-- Decimals: of a number's digits.
 pub mod Cells
 pub mod Rows
+pub mod Puts
+pub mod Decimals

@@ -70,3 +70,37 @@ rowNext row = record { cell = Empty; cells = oneMore (row .cells); good = stillG
 -- and the run then, for a line whose first number goes to place `from`
 unfoldable pub keptAt : Row → ℕ → List ℕ → List ℕ
 keptAt row from run = keptAs (row .cell) (from + row .cells) run
+
+-- ---- a line and the run that its numbers go to, byte by byte and cell by cell
+pub record Reading : Type 0 where
+  pub row : Row
+  pub run : List ℕ
+
+-- nothing of a line has been read
+abbrev pub begin : List ℕ → Reading
+begin run = record { row = fresh; run = run }
+
+-- the present cell ends
+abbrev pub ended : ℕ → Reading → Reading
+ended from s = record { row = rowNext (s .row); run = keptAt (s .row) from (s .run) }
+
+-- the present cell takes a byte
+abbrev pub within : Reading → ℕ → Reading
+within s b = record { row = rowWith (s .row) b; run = s .run }
+
+-- one byte of a line: what parts its cells ends the present cell, any other byte belongs to it
+unfoldable pub readByte : ℕ → ℕ → Reading → ℕ → Reading
+readByte by from s b = pick (eqb b by) (ended from s) (within s b)
+
+-- a whole cell
+abbrev pub readCell : ℕ → Reading → List ℕ → Reading
+readCell from s c =
+    record {
+      row = record { cell = Empty; cells = oneMore (s .row .cells); good = stillGood (cellOf c) (s .row .good) };
+      run = keptAs (cellOf c) (from + s .row .cells) (s .run);
+    }
+
+-- cells one after the other
+abbrev pub readCells : ℕ → Reading → List (List ℕ) → Reading
+readCells from s [] = s
+readCells from s (c ∷ cs) = readCells from (readCell from s c) cs

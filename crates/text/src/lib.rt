@@ -9,4 +9,5 @@
 //
 // Writing. Bytes are put at a place of a lent run, and the place after them is answered (`put`).
 pub mod cell;
+pub mod put;
 pub mod row;
