@@ -1,5 +1,19 @@
 -- The laws that proofs of this crate and above cite:
 -- Numbers: of `all`, `count`, `least`, `greatest` and `tab`.
+-- Widths: what shifts and masks do, once for every width.
 -- Sides: of the first number past a range and of the range test.
+-- Prefixes: which answer a prefix has.
+-- Blocks: the largest aligned block, and the search by doubling.
+-- Expansion: the prefixes of a range, one law for an empty one and one for its first block.
+-- Passes: counting and writing the prefixes.
+-- RangeFaults: which refusal a range meets, and the whole answer.
+-- Cover: what the prefixes of a range are: each number in exactly one, each block the largest.
 pub mod Numbers
+pub mod Widths
 pub mod Sides
+pub mod Prefixes
+pub mod Blocks
+pub mod Expansion
+pub mod Passes
+pub mod RangeFaults
+pub mod Cover

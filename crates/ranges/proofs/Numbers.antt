@@ -5,7 +5,7 @@
 --     count-more, count-le             one number more; never more than n
 --     least-is, least-none             the least that passes; n where none does
 --     least-hit, least-under, least-le it passes; those under it fail; it is at most n
---     greatest-is                      the greatest that passes
+--     greatest-is, greatest-holds      the greatest that passes; what it is where one passes
 --     tab-length, tab-at               the list of a function's values
 -- Assumes nothing.
 use Prim.Native.Nat.{ℕ, zero, suc, _+_, _≤_, _<_}
@@ -164,6 +164,21 @@ module _ (P : ℕ → Bool) where
       (λ e. rw (subst (λ m. P m ≡ true) e passes) (sym e))
       (λ l. rw (fail n l (omega arith)) (greatest-is n j l passes (λ k a b. fail k a (omega arith))))
       (eq-or-lt-of-le (le-of-suc-le-suc lt))
+
+  -- where some number below n passes, the greatest is one that passes, at least as great
+  pub greatest-holds : (n k : ℕ) → k < n → P k ≡ true → (P (greatest n P) ≡ true) × (k ≤ greatest n P) × (greatest n P < n)
+  unfolding greatest
+  greatest-holds zero k lt passes = absurd (omega arith)
+  greatest-holds (suc n) k lt passes = go (P n) refl (λ l. greatest-holds n k l passes)
+    where
+      go : (t : Bool) → P n ≡ t → (k < n → (P (greatest n P) ≡ true) × (k ≤ greatest n P) × (greatest n P < n))
+          → (P (pick t n (greatest n P)) ≡ true) × (k ≤ pick t n (greatest n P)) × (pick t n (greatest n P) < suc n)
+      go true e under = (e, omega arith, omega arith)
+      go false e under =
+          ⊎-elim
+          (λ is-n. absurd (true-not-false (subst (λ j. P j ≡ true) is-n passes) e))
+          (λ l. (under l .0, under l .1, omega (arith, under l .2)))
+          (eq-or-lt-of-le (le-of-suc-le-suc lt))
 
 -- ---- tab
 module _ (f : ℕ → ℕ) where

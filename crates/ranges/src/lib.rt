@@ -6,5 +6,7 @@
 // What it answers. `side_of` says on which side of a range a number lies. `prefix_to_range` turns a prefix into
 // its range. `range_to_prefixes` turns a range into prefixes: from the low end, always the largest aligned block
 // that stays in the range.
+pub mod expand;
+pub mod prefix;
 pub mod refusal;
 pub mod side;
