@@ -24,8 +24,8 @@ use Rattle.ranges.proofs.Expansion.{firstOf, nextOf, prefixes-done, pre
 
 -- ---- induction along the prefixes of a range
 module _ (w high : ℕ) (P : ℕ → List Prefix → Type 0)
-  (done : (low : ℕ) → endOf high ≤ low → P low [])
-  (more : (low : ℕ) (ps : List Prefix) → low < endOf high → P (nextOf w low high) ps → P low (firstOf w low high ∷ ps)) where
+    (done : (low : ℕ) → endOf high ≤ low → P low [])
+    (more : (low : ℕ) (ps : List Prefix) → low < endOf high → P (nextOf w low high) ps → P low (firstOf w low high ∷ ps)) where
   -- k bounds how many numbers are left
   ind : (k low : ℕ) → endOf high ≤ low + k → P low (prefixesOf w low high)
   ind zero low past =
@@ -69,7 +69,7 @@ prefixes-chain w low high = prefixes-ind w high (λ s ps. s ≤ endOf high → C
     done s past le = omega arith
 
     more : (s : ℕ) (ps : List Prefix) → s < endOf high → (nextOf w s high ≤ endOf high → Chain w (nextOf w s high) (endOf high) ps)
-      → s ≤ endOf high → Chain w s (endOf high) (firstOf w s high ∷ ps)
+        → s ≤ endOf high → Chain w s (endOf high) (firstOf w s high ∷ ps)
     more s ps within rest le =
         (refl, subst (λ k. Chain w (s + k) (endOf high) ps) (sym (first-size w s high within)) (rest (block-at w s high within .1)))
 
