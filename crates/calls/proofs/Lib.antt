@@ -1,0 +1,2 @@
+-- Said: laws of answers as text.
+pub mod Said
