@@ -1,2 +1,4 @@
 -- Said: laws of answers as text.
 pub mod Said
+-- Words: laws of what each word answers.
+pub mod Words

@@ -1,4 +1,5 @@
 // calls
+mod prefix_words;
 mod say;
 
 fn main() {
