@@ -1,4 +1,5 @@
 // calls
+mod line;
 mod prefix_words;
 mod say;
 
