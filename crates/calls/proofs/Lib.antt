@@ -4,3 +4,7 @@ pub mod Said
 pub mod Words
 -- Lines: laws of a line read byte by byte.
 pub mod Lines
+-- Names: laws of the names of the calls.
+-- Answers: laws of the answer to a line.
+pub mod Names
+pub mod Answers

@@ -1,3 +1,5 @@
 pub mod Said
 pub mod Words
 pub mod Lines
+pub mod Names
+pub mod Answers

@@ -1,7 +1,9 @@
 // calls
+mod answer;
 mod line;
 mod prefix_words;
 mod say;
+mod word;
 
 fn main() {
     let mut out = [0u8; 64];
