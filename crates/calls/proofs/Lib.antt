@@ -8,3 +8,5 @@ pub mod Lines
 -- Answers: laws of the answer to a line.
 pub mod Names
 pub mod Answers
+-- Serving: laws of serving a piece of input.
+pub mod Serving

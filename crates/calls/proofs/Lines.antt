@@ -1,5 +1,5 @@
 -- Laws of a line of calls read byte by byte (`specs/Lines.antt`).
---     line-ends, line-none              the first LF
+--     line-ends, line-none, line-within the first LF
 --     number-ends, number-takes, name-ends, name-takes      one byte more, way by way
 -- Assumes nothing.
 use Prim.Native.Nat.{ℕ, zero, suc, _+_, _≤_, _<_}
@@ -10,6 +10,7 @@ use native.Mathlib.Omega.{arith}
 use borrow.Author.Tests.{eq-eqb, ne-eqb}
 use lib.ListN.{length, getD, set}
 use lib.Dec.{eqb}
+use Rattle.ranges.specs.Numbers.{pick}
 use Rattle.text.specs.Rows.{rowWith, rowNext, keptAt}
 use Rattle.text.specs.Puts.{Put, placeAfter}
 use Rattle.text.specs.declared.row.Row.{Row}
@@ -28,6 +29,16 @@ pub line-none : (bs : List ℕ) → ((k : ℕ) → k < length bs → getD bs k 0
 unfolding lineIn
 line-none [] none = refl
 line-none (b ∷ bs) none = rw (ne-eqb b 10 (none 0 (omega arith))) (ap suc (line-none bs (λ k l. none (suc k) (omega arith))))
+
+-- no more bytes stand before it than there are
+pub line-within : (bs : List ℕ) → lineIn bs ≤ length bs
+unfolding lineIn
+line-within [] = omega arith
+line-within (b ∷ bs) = go (eqb b 10) (line-within bs)
+  where
+    go : (t : Bool) → lineIn bs ≤ length bs → pick t 0 (suc (lineIn bs)) ≤ suc (length bs)
+    go true le = omega arith
+    go false le = omega arith
 
 -- ---- one byte more
 module _ (line : Line) (name numbers : List ℕ) (b : ℕ) where

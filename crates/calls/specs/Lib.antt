@@ -3,3 +3,4 @@ pub mod Words
 pub mod Lines
 pub mod Names
 pub mod Answers
+pub mod Serving
