@@ -8,6 +8,10 @@
 -- Passes: counting and writing the prefixes.
 -- RangeFaults: which refusal a range meets, and the whole answer.
 -- Cover: what the prefixes of a range are: each number in exactly one, each block the largest.
+-- Few: how many prefixes a range has, once for every width.
+-- Theorems: the headline statements, T1 to T5.
+-- Cases: the worked cases B10 to B12.
+-- Determined: any two results that a contract allows are equal.
 pub mod Numbers
 pub mod Widths
 pub mod Sides
@@ -17,3 +21,7 @@ pub mod Expansion
 pub mod Passes
 pub mod RangeFaults
 pub mod Cover
+pub mod Few
+pub mod Theorems
+pub mod Cases
+pub mod Determined

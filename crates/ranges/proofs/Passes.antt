@@ -60,7 +60,7 @@ pub left-end : {w low high at count : ℕ} → Left w low high at count → high
 left-end {w} {low} {high} {at} l past = omega (arith, l .sum, ap length (prefixes-done w at high (past-high high at past)))
 
 -- ---- writing
-flat-length : (ps : List Prefix) → length (flat ps) ≡ length ps * 2
+pub flat-length : (ps : List Prefix) → length (flat ps) ≡ length ps * 2
 flat-length [] = refl
 flat-length (p ∷ ps) = omega (arith, flat-length ps)
 

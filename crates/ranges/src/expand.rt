@@ -46,11 +46,11 @@ fn count_prefixes(width: u32, low: u64, high: u64) -> usize
     requires { ⌜ Ranged width low high ⌝ }
     ensures { λ r. ⌜ r ≡ length (prefixesOf width low high) ⌝ }
 {
-    let mut at = low;
+    let mut next = low;
     let mut count: usize = 0;
-    while at <= high {
-        let t = largest_block(width, at, high);
-        at += block_size(t);
+    while next <= high {
+        let t = largest_block(width, next, high);
+        next += block_size(t);
         count += 1;
     }
     count

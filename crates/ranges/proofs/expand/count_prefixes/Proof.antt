@@ -10,10 +10,10 @@ use Rattle.ranges.proofs.expand.count_prefixes.Statement.{statement}
 use Rattle.ranges.proofs.expand.count_prefixes.Tie as tie
 
 abbrev Inv-loop : tie.InvT-loop
-Inv-loop width low high at₀ count₀ at count = Left width low high at count
+Inv-loop width low high next₀ count₀ next count = Left width low high next count
 
 abbrev μ-loop : tie.MeasureT-loop
-μ-loop width low high at₀ count₀ at count = high + 1 - at
+μ-loop width low high next₀ count₀ next count = high + 1 - next
 
 loop-holds : tie.Need-loop-holds Inv-loop μ-loop
 loop-holds c = left-start (c .pre)
@@ -25,11 +25,11 @@ block-size-requires : tie.Need-block-size-requires Inv-loop μ-loop
 block-size-requires c κs =
     let t = c .before in
     let r = t .before .before .pre in
-    omega (arith, exponent-few (t .before .loop .at) r (t .loop-test .taken) (c .largest-block .ensures), r)
+    omega (arith, exponent-few (t .before .loop .next) r (t .loop-test .taken) (c .largest-block .ensures), r)
 
 -- what a turn adds, from where it stands
-add-at : tie.Need-add-at Inv-loop μ-loop
-add-at c =
+add-next : tie.Need-add-next Inv-loop μ-loop
+add-next c =
     let block = c .before in
     let t = block .before in
     let r = t .before .before .pre in
@@ -65,7 +65,7 @@ count-prefixes-spec =
     loop-holds
     largest-block-requires
     block-size-requires
-    add-at
+    add-next
     add-count
     loop-less
     loop-again

@@ -1,0 +1,97 @@
+-- The headline statements of layer 1, in the order of DESIGN's list. What the functions return is their contract; these say what that means.
+--     T1  prefix-holds             the range of a prefix is the numbers that agree with it in its first bits
+--         prefix-stands            a prefix that meets neither 9 nor 10 has this range
+--     T2  run-kept                 a refusal leaves the run as lent
+--         run-past                 numbers past the last pair stay
+--     T3  covers-once              each number of a range lies in exactly one of its prefixes
+--         covers-no-other          no other number lies in any
+--         turn-back                each prefix turns back into its block
+--         largest                  each block is the largest aligned one that stays in the range
+--     T4  few                      at most 2w - 2 prefixes for w ≥ 2
+--         one                      exactly one for w = 1
+--     T5  side-says                the three outcomes of the range test, and what each says
+-- Assumes nothing.
+use Prim.Native.Nat.{ℕ, _+_, _-_, _*_, _/_, _%_, _^_, _≤_, _<_}
+use mathlib.Core.Bool.{true}
+use mathlib.Core.List.{List, _++_}
+use mathlib.Core.Logic.{⊎-elim, _⊎_, _↔_}
+use mathlib.Core.Path.{_≡_, sym, ap, _∙_}
+use native.Mathlib.Omega.{arith}
+use native.Mathlib.Nat.{div-add-mod', mod-lt, mul-le-mul-right}
+use lib.ListN.{length, getD, drop}
+use lib.Arith.{digits-div}
+use lib.Pow.{pow-pos}
+use lib.Seq.{getD-append-add, getD-drop}
+use borrow.Author.Tests.{ne-eqb}
+use Rattle.ranges.specs.Sides.{endOf, sideOf}
+use Rattle.ranges.specs.Prefixes.{boundsOf, highOf}
+use Rattle.ranges.specs.Blocks.{Ranged, prefixesOf, expandFault, runAfter, written, flat}
+use Rattle.ranges.specs.declared.prefix.Bounds.the-variants.{Are}
+use Rattle.ranges.proofs.Sides.{Lies, lies, within-high, past-high}
+use Rattle.ranges.proofs.Prefixes.{bounds-are}
+use Rattle.ranges.proofs.Passes.{flat-length}
+use Rattle.ranges.proofs.Cover.{Each, TurnsBack, Largest, holders, prefixes-chain, chain-one, chain-before, chain-past, prefixes-turn-back, prefixes-largest}
+use Rattle.ranges.proofs.Few.{few-prefixes, one-prefix}
+
+-- T1: a number lies from an aligned value to the end of its block exactly where it agrees with the value in all bits above the lowest k
+pub prefix-holds : (value k x : ℕ) → value % 2 ^ k ≡ 0 → ((value ≤ x) × (x < value + 2 ^ k)) ↔ (x / 2 ^ k ≡ value / 2 ^ k)
+prefix-holds value k x even =
+    let block : value / 2 ^ k * 2 ^ k + 0 ≡ value = ap (λ r. value / 2 ^ k * 2 ^ k + r) (sym even) ∙ div-add-mod' value (2 ^ k) in
+    let split : x / 2 ^ k * 2 ^ k + x % 2 ^ k ≡ x = div-add-mod' x (2 ^ k) in (
+      λ lies.
+          let is : value / 2 ^ k * 2 ^ k + (x - value) ≡ x = omega (arith, lies) in
+          sym (ap (λ y. y / 2 ^ k) is) ∙ digits-div (value / 2 ^ k) (omega (arith, lies)),
+      λ e.
+          let under = mod-lt x (pow-pos k) in
+          let same : x / 2 ^ k * 2 ^ k ≡ value / 2 ^ k * 2 ^ k = ap (λ q. q * 2 ^ k) e in
+          (omega arith, omega arith),
+    )
+
+-- such a prefix of 1 to 32 bits has the range that starts at its value and ends with its block
+pub prefix-stands : (w value len : ℕ) → 1 ≤ w → w ≤ 32 → len ≤ w → value < 2 ^ w → value % 2 ^ (w - len) ≡ 0
+    → boundsOf w value len ≡ Are value (highOf w value len)
+prefix-stands w value len some few short narrow even = bounds-are w value len some few short narrow even
+
+-- T2: whatever is refused, the run stays
+pub run-kept : (w low high : ℕ) (run : List ℕ) → (expandFault w low high run .number ≡ 0 → ⊥) → runAfter w low high run ≡ run
+run-kept w low high run refuses = rw (ne-eqb (expandFault w low high run .number) 0 refuses)
+
+-- a number past the last pair is as it was
+pub run-past : (w low high : ℕ) (run : List ℕ) (k : ℕ)
+    → getD (written (prefixesOf w low high) run) (length (prefixesOf w low high) * 2 + k) 0 ≡ getD run (length (prefixesOf w low high) * 2 + k) 0
+unfolding written
+run-past w low high run k =
+    let ps = prefixesOf w low high in
+    let n = length ps * 2 in
+    ap (λ m. getD (flat ps ++ drop n run) (m + k) 0) (sym (flat-length ps)) ∙ getD-append-add (flat ps) (drop n run) k 0 ∙ getD-drop n run k 0
+
+-- T3
+pub covers-once : (w low high x : ℕ) → low ≤ x → x ≤ high → holders w x (prefixesOf w low high) ≡ 1
+covers-once w low high x from to =
+    let end = within-high high x to in
+    chain-one w x low (endOf high) (prefixesOf w low high) (prefixes-chain w low high (omega arith)) from end
+
+pub covers-no-other : (w low high x : ℕ) → low ≤ high → (x < low) ⊎ (high < x) → holders w x (prefixesOf w low high) ≡ 0
+covers-no-other w low high x le =
+    let end = within-high high low le in
+    let chain = prefixes-chain w low high (omega arith) in
+    ⊎-elim
+    (λ before. chain-before w x low (endOf high) (prefixesOf w low high) chain before)
+    (λ past. chain-past w x low (endOf high) (prefixesOf w low high) chain (past-high high x past))
+
+pub turn-back : (w low high : ℕ) → Ranged w low high → Each (TurnsBack w) (prefixesOf w low high)
+turn-back = prefixes-turn-back
+
+pub largest : (w low high : ℕ) → Each (Largest w high) (prefixesOf w low high)
+largest = prefixes-largest
+
+-- T4
+pub few : {w low high : ℕ} → Ranged w low high → 2 ≤ w → length (prefixesOf w low high) ≤ w * 2 - 2
+few = few-prefixes
+
+pub one : {low high : ℕ} → Ranged 1 low high → length (prefixesOf 1 low high) ≡ 1
+one = one-prefix
+
+-- T5
+pub side-says : (low high x : ℕ) → Lies low high x (sideOf low high x)
+side-says = lies

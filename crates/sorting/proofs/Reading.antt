@@ -1,0 +1,147 @@
+-- Reading the table of a list and a run of partition numbers gives back its parts (`specs/Table.antt`, `specs/Layout.antt`).
+--     table-sized                                the table's length
+--     read-rules, read-fields, read-parts        n, d, b
+--     read-order, read-start                     the rule at a place; the first place of a partition
+--     read-from, read-to                         the ends of a run
+-- Assumes nothing.
+use Prim.Native.Nat.{ℕ, _+_, _*_, _/_, _%_, _≤_, _<_}
+use mathlib.Core.List.{List, [], _∷_, _++_}
+use mathlib.Core.Path.{_≡_, refl, ap, _∙_}
+use native.Mathlib.Omega.{arith}
+use lib.Arith.{digits-div, digits-mod}
+use lib.ListN.{length, getD, length-append, List·getD-append}
+use lib.Seq.{getD-append-add}
+use Rattle.ranges.specs.Numbers.{tab}
+use Rattle.ranges.proofs.Numbers.{tab-length, tab-at}
+use Rattle.lists.specs.Rules.{Rules, fieldsOf, rulesIn}
+use Rattle.lists.proofs.Rules.{row-inside}
+use Rattle.sorting.specs.FirstFit.{parts}
+use Rattle.sorting.specs.Layout.{TableFor, tableLength, orderAt, startAt, fromAt, toAt}
+use Rattle.sorting.specs.Opening.{viewOf}
+use Rattle.sorting.specs.Table.{ruleAt, startOf, runFrom, runTo, byPlace, tableOf}
+
+-- ---- a list in two parts, the first of n numbers
+module _ (xs ys : List ℕ) (n : ℕ) (long : length xs ≡ n) where
+  within : (at : ℕ) → at < n → getD (xs ++ ys) at 0 ≡ getD xs at 0
+  within at lt = List·getD-append xs ys 0 at (omega arith)
+
+  past : (k at : ℕ) → at ≡ n + k → getD (xs ++ ys) at 0 ≡ getD ys k 0
+  past k at e =
+      let is : at ≡ length xs + k = omega arith in
+      ap (λ m. getD (xs ++ ys) m 0) is ∙ getD-append-add xs ys k 0
+
+  both-long : (m : ℕ) → length ys ≡ m → length (xs ++ ys) ≡ n + m
+  both-long m long′ = omega (arith, length-append xs ys)
+
+-- ---- a part that stands place by place, field by field
+module _ (R : Rules) (g : ℕ → ℕ → ℕ) where
+  by-place-length : length (byPlace R g) ≡ rulesIn R * fieldsOf R
+  by-place-length = tab-length (λ c. g (c / fieldsOf R) (c % fieldsOf R)) (rulesIn R * fieldsOf R)
+
+  by-place-at : (p f : ℕ) → p < rulesIn R → f < fieldsOf R → getD (byPlace R g) (p * fieldsOf R + f) 0 ≡ g p f
+  by-place-at p f is-p in-row =
+      tab-at (λ c. g (c / fieldsOf R) (c % fieldsOf R)) (rulesIn R * fieldsOf R) (p * fieldsOf R + f) (row-inside (fieldsOf R) p (rulesIn R) f is-p in-row)
+      ∙ ap (λ q. g q ((p * fieldsOf R + f) % fieldsOf R)) (digits-div p in-row)
+      ∙ ap (g p) (digits-mod p in-row)
+
+-- ---- the table up to a part's end
+-- n, d and b
+abbrev pub toHead : Rules → List ℕ → List ℕ
+toHead R run = rulesIn R ∷ fieldsOf R ∷ parts run (rulesIn R) ∷ []
+
+-- and the order
+abbrev pub toOrder : Rules → List ℕ → List ℕ
+toOrder R run = toHead R run ++ tab (rulesIn R) (ruleAt R run)
+
+-- and the starts
+abbrev pub toStarts : Rules → List ℕ → List ℕ
+toStarts R run = toOrder R run ++ tab (rulesIn R + 1) (startOf R run)
+
+-- and the run-froms
+abbrev pub toFroms : Rules → List ℕ → List ℕ
+toFroms R run = toStarts R run ++ byPlace R (runFrom R run)
+
+module _ (R : Rules) (run : List ℕ) where
+  pub table-parts : tableOf R run ≡ toFroms R run ++ byPlace R (runTo R run)
+  unfolding tableOf
+  table-parts = refl
+
+  order-long : length (toOrder R run) ≡ 3 + rulesIn R
+  order-long = both-long (toHead R run) (tab (rulesIn R) (ruleAt R run)) 3 refl (rulesIn R) (tab-length (ruleAt R run) (rulesIn R))
+
+  starts-long : length (toStarts R run) ≡ 4 + rulesIn R * 2
+  starts-long =
+      let long = both-long (toOrder R run) (tab (rulesIn R + 1) (startOf R run)) (3 + rulesIn R) order-long (rulesIn R + 1) (tab-length (startOf R run) (rulesIn R + 1)) in
+      omega arith
+
+  froms-long : length (toFroms R run) ≡ 4 + rulesIn R * 2 + rulesIn R * fieldsOf R
+  froms-long =
+      both-long (toStarts R run) (byPlace R (runFrom R run)) (4 + rulesIn R * 2) starts-long (rulesIn R * fieldsOf R) (by-place-length R (runFrom R run))
+
+  -- what stands before the run-tos, the run-froms, the starts
+  in-froms : (at : ℕ) → at < 4 + rulesIn R * 2 + rulesIn R * fieldsOf R → getD (tableOf R run) at 0 ≡ getD (toFroms R run) at 0
+  unfolding tableOf
+  in-froms at lt = within (toFroms R run) (byPlace R (runTo R run)) (4 + rulesIn R * 2 + rulesIn R * fieldsOf R) froms-long at lt
+
+  in-starts : (at : ℕ) → at < 4 + rulesIn R * 2 → getD (tableOf R run) at 0 ≡ getD (toStarts R run) at 0
+  in-starts at lt =
+      in-froms at (omega arith) ∙ within (toStarts R run) (byPlace R (runFrom R run)) (4 + rulesIn R * 2) starts-long at lt
+
+  in-order : (at : ℕ) → at < 3 + rulesIn R → getD (tableOf R run) at 0 ≡ getD (toOrder R run) at 0
+  in-order at lt =
+      in-starts at (omega arith) ∙ within (toOrder R run) (tab (rulesIn R + 1) (startOf R run)) (3 + rulesIn R) order-long at lt
+
+  -- ---- the parts
+  tos-long : length (toFroms R run ++ byPlace R (runTo R run)) ≡ 4 + rulesIn R * 2 + rulesIn R * fieldsOf R + rulesIn R * fieldsOf R
+  tos-long =
+      let tos = byPlace R (runTo R run) in
+      both-long (toFroms R run) tos (4 + rulesIn R * 2 + rulesIn R * fieldsOf R) froms-long (rulesIn R * fieldsOf R) (by-place-length R (runTo R run))
+
+  table-long : length (tableOf R run) ≡ tableLength (rulesIn R) (fieldsOf R)
+  unfolding tableOf tableLength
+  table-long = omega (arith, tos-long)
+
+  pub table-sized : TableFor (rulesIn R) (fieldsOf R) (tableOf R run)
+  table-sized = record { long = table-long }
+
+  pub read-rules : viewOf R (tableOf R run) .n ≡ rulesIn R
+  unfolding tableOf
+  read-rules = refl
+
+  pub read-fields : viewOf R (tableOf R run) .d ≡ fieldsOf R
+  unfolding tableOf
+  read-fields = refl
+
+  pub read-parts : viewOf R (tableOf R run) .b ≡ parts run (rulesIn R)
+  unfolding tableOf
+  read-parts = refl
+
+  pub read-order : (p : ℕ) → p < rulesIn R → viewOf R (tableOf R run) .order p ≡ ruleAt R run p
+  unfolding orderAt
+  read-order p is-p =
+      in-order (3 + p) (omega arith)
+      ∙ past (toHead R run) (tab (rulesIn R) (ruleAt R run)) 3 refl p (3 + p) refl
+      ∙ tab-at (ruleAt R run) (rulesIn R) p is-p
+
+  pub read-start : (q : ℕ) → q ≤ rulesIn R → viewOf R (tableOf R run) .start q ≡ startOf R run q
+  unfolding startAt
+  read-start q le =
+      in-starts (3 + rulesIn R + q) (omega arith)
+      ∙ past (toOrder R run) (tab (rulesIn R + 1) (startOf R run)) (3 + rulesIn R) order-long q (3 + rulesIn R + q) refl
+      ∙ tab-at (startOf R run) (rulesIn R + 1) q (omega arith)
+
+  pub read-from : (p f : ℕ) → p < rulesIn R → f < fieldsOf R → viewOf R (tableOf R run) .from p f ≡ runFrom R run p f
+  unfolding fromAt
+  read-from p f is-p in-row =
+      let cell = p * fieldsOf R + f in
+      let at = 4 + rulesIn R * 2 + cell in
+      in-froms at (omega (arith, row-inside (fieldsOf R) p (rulesIn R) f is-p in-row))
+      ∙ past (toStarts R run) (byPlace R (runFrom R run)) (4 + rulesIn R * 2) starts-long cell at refl
+      ∙ by-place-at R (runFrom R run) p f is-p in-row
+
+  pub read-to : (p f : ℕ) → p < rulesIn R → f < fieldsOf R → viewOf R (tableOf R run) .to p f ≡ runTo R run p f
+  unfolding toAt tableOf
+  read-to p f is-p in-row =
+      let cell = p * fieldsOf R + f in
+      let n-froms = 4 + rulesIn R * 2 + rulesIn R * fieldsOf R in
+      past (toFroms R run) (byPlace R (runTo R run)) n-froms froms-long cell (n-froms + cell) refl ∙ by-place-at R (runTo R run) p f is-p in-row
