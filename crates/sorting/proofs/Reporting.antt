@@ -13,27 +13,26 @@
 use Prim.Native.Nat.{ℕ, zero, suc, min, _+_, _-_, _≤_, _<_}
 use mathlib.Core.Bool.{Bool, true, false}
 use mathlib.Core.List.{List}
-use mathlib.Core.Path.{_≡_, refl, sym, ap, _∙_, subst}
+use mathlib.Core.Path.{_≡_, refl, sym, ap, _∙_}
 use mathlib.Core.Logic.{_⊎_, inl, inr, ⊎-elim}
 use native.Mathlib.Omega.{arith}
 use native.Mathlib.Nat.{eq-or-lt-of-le, le-of-suc-le-suc}
 use native.Mathlib.Numerals.{add-one}
-use lib.ListN.{length, getD}
+use lib.ListN.{length}
 use lib.Dec.{ltb, leb, eqb}
 use borrow.Author.Tests.{lt-ltb, le-ltb, le-leb, eq-eqb, ne-eqb, ltb-true, ltb-false, leb-true, eqb-true}
 use Rattle.ranges.specs.Numbers.{pick, _and_, all}
 use Rattle.ranges.specs.Refusals.{none, refused, orElse, stands, BadTableLength, BrokenTable, NoSuchPartition}
 use Rattle.ranges.specs.declared.refusal.Refusal.{Refusal}
 use Rattle.ranges.proofs.Numbers.{true-not-false, and-left, and-right, all-yes, all-at, all-no}
-use Rattle.lists.specs.Rules.{Rules, fieldsOf, rulesIn, Shaped}
+use Rattle.lists.specs.Rules.{Rules, fieldsOf, rulesIn}
 use Rattle.lists.specs.Faults.{shapeFault}
 use Rattle.lists.proofs.Faults.{shape-few, shape-stands}
-use Rattle.sorting.specs.Layout.{View, TableFor, tableLength, orderAt, startAt}
+use Rattle.sorting.specs.Layout.{View, tableLength, orderAt, startAt}
 use Rattle.sorting.specs.Opening.{opening, partStands, viewOf, openFault}
 use Rattle.sorting.specs.Asked.{PartOf, PartWithin}
 use Rattle.sorting.specs.Report.{smallest, placesIn, sizeOf, rulesStand, leastRule, partFault, reportFault, reportOf}
-use Rattle.sorting.specs.declared.report.Part.{Part}
-use Rattle.sorting.specs.declared.report.Part.the-variants.{Is, Refused}
+use Rattle.sorting.specs.declared.report.Part.the-variants.{Is}
 use Rattle.sorting.proofs.Offsets.{order-inside, start-inside}
 use Rattle.sorting.proofs.Opening.{Opened, opened, open-stands}
 
