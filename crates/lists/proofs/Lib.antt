@@ -1,5 +1,13 @@
 -- The laws that proofs of this crate and above cite:
+-- Search: of a loop that tests 0, 1, .. until one answers otherwise.
 -- Rules: where a rule's numbers stand, and what a list of the right shape is.
 -- Faults: which refusal of 1 to 4 a list meets.
+-- Voids: of the refusal 4, low > high in a field, in a rule, in a list.
+-- Fitting: of what fits a header.
+-- Meeting: of rules that one header can fit.
+pub mod Search
 pub mod Rules
 pub mod Faults
+pub mod Voids
+pub mod Fitting
+pub mod Meeting

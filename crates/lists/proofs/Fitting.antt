@@ -1,0 +1,59 @@
+-- Laws of what fits a header (`specs/FirstMatch.antt`, `specs/Scan.antt`): a field, a rule, and which rule is the first.
+--     inside-read          the code's range test of one field
+--     match-rule, match-none                the first match, or none, from the rule at which the search for it ends
+--     in-1, in-1-many, in-none, in-rule     whether a rule of the list fits, from the tests that lead there
+-- Assumes nothing.
+use Prim.Native.Nat.{ℕ, _+_, _≤_, _<_}
+use mathlib.Core.Bool.{Bool, true, false, not}
+use mathlib.Core.List.{List}
+use mathlib.Core.Path.{_≡_, refl, sym, ap, _∙_}
+use native.Mathlib.Omega.{arith}
+use lib.ListN.{length, getD}
+use lib.Dec.{ltb}
+use borrow.Author.Tests.{lt-ltb, le-ltb}
+use Rattle.ranges.specs.Numbers.{pick, _and_, _or_, all, least}
+use Rattle.ranges.specs.Sides.{sideOf, isInside}
+use Rattle.ranges.specs.declared.side.Side.{Side}
+use Rattle.lists.specs.Rules.{Rules, fieldsOf, rulesIn, cellOf, lowOf, highOf}
+use Rattle.lists.specs.FirstMatch.{sideAt, insideAt, fits, firstMatch}
+use Rattle.lists.specs.Scan.{fitsIn, matchOf}
+use Rattle.lists.specs.declared.scan.Match.{Match}
+use Rattle.lists.specs.declared.scan.Match.the-variants.{Rule, Nothing}
+use Rattle.lists.proofs.Rules.{low-read, high-read, rule-within, rule-past}
+
+-- the outcome of the test, where a callee said where the rule's low stands
+module _ (R : Rules) (h : List ℕ) (i f at : ℕ) (is-cell : at ≡ cellOf (fieldsOf R) i f) where
+  side-read : sideOf (getD (R .numbers) at 0) (getD (R .numbers) (at + 1) 0) (getD h f 0) ≡ sideAt R h i f
+  side-read = rw (low-read R i f at is-cell, high-read R i f at is-cell)
+
+  pub inside-read : (s t : Side) → s ≡ sideOf (getD (R .numbers) at 0) (getD (R .numbers) (at + 1) 0) (getD h f 0) → s ≡ t
+      → isInside t ≡ insideAt R h i f
+  inside-read s t is-side is-t = ap isInside (sym is-t ∙ is-side ∙ side-read)
+
+-- ---- the first match as the code works it out: i, of m rules
+module _ (R : Rules) (h : List ℕ) (i m : ℕ) (is-first : i ≡ firstMatch R h) (is-n : m ≡ rulesIn R) where
+  pub match-rule : i < m → Rule i ≡ matchOf R h
+  match-rule lt = rw (← is-first, ← is-n, lt-ltb i m lt)
+
+  pub match-none : m ≤ i → Nothing ≡ matchOf R h
+  match-none past = rw (← is-first, ← is-n, le-ltb i m past)
+
+-- ---- whether a rule of the list fits
+module _ (R : Rules) (h : List ℕ) (i : ℕ) where
+  pub in-1 : fieldsOf R < 1 → false ≡ fitsIn R h i
+  unfolding fitsIn
+  in-1 few = rw (lt-ltb (fieldsOf R) 1 few)
+
+  pub in-1-many : 1 ≤ fieldsOf R → 8 < fieldsOf R → false ≡ fitsIn R h i
+  unfolding fitsIn
+  in-1-many some many = rw (le-ltb (fieldsOf R) 1 some, lt-ltb 8 (fieldsOf R) many)
+
+-- at is where the rule's last field ends
+module _ (R : Rules) (h : List ℕ) (i at : ℕ) (some : 1 ≤ fieldsOf R) (few : fieldsOf R ≤ 8) (is-cell : at ≡ cellOf (fieldsOf R) i (fieldsOf R)) where
+  pub in-none : length (R .numbers) < at → false ≡ fitsIn R h i
+  unfolding fitsIn
+  in-none lt = rw (le-ltb (fieldsOf R) 1 some, le-ltb 8 (fieldsOf R) few, le-ltb i (rulesIn R) (rule-past R i at some is-cell lt))
+
+  pub in-rule : at ≤ length (R .numbers) → fits R h i ≡ fitsIn R h i
+  unfolding fitsIn
+  in-rule le = rw (le-ltb (fieldsOf R) 1 some, le-ltb 8 (fieldsOf R) few, lt-ltb i (rulesIn R) (rule-within R i at some is-cell le))
