@@ -1,0 +1,2 @@
+-- Telling: of an answer laid out as numbers.
+mod Telling

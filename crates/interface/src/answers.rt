@@ -1,0 +1,82 @@
+// How an answer is written into the run of numbers that a caller lends: number, at, then, and then what is answered.
+use lists::independence::Pair;
+use lists::scan::Match;
+use ranges::prefix::Bounds;
+use ranges::refusal::Count;
+ghost use Rattle.ranges.specs.Refusals.{saysCount};
+ghost use Rattle.ranges.specs.Prefixes.{saysBounds};
+ghost use Rattle.lists.specs.Scan.{saysMatch};
+ghost use Rattle.lists.specs.Independence.{saysPair};
+ghost use Rattle.interface.specs.Answers.{Told};
+
+// Writes what is counted, and gives the refusal number.
+pub(crate) fn put_count(count: Count, answer: &mut [u64; 4]) -> u32
+    ensures { λ r. ⌜ Told 1 (saysCount count) r (now (answer .exit)) ⌝ }
+{
+    match count {
+        Count::Is(k) => {
+            *answer = [0, 0, 0, k as u64];
+            0
+        }
+        Count::Refused(x) => {
+            *answer = [x.number as u64, x.at as u64, x.then as u64, 0];
+            x.number
+        }
+    }
+}
+
+// Writes a range's low and high, and gives the refusal number.
+pub(crate) fn put_bounds(bounds: Bounds, answer: &mut [u64; 5]) -> u32
+    ensures { λ r. ⌜ Told 2 (saysBounds bounds) r (now (answer .exit)) ⌝ }
+{
+    match bounds {
+        Bounds::Are(low, high) => {
+            *answer = [0, 0, 0, low as u64, high as u64];
+            0
+        }
+        Bounds::Refused(x) => {
+            *answer = [x.number as u64, x.at as u64, x.then as u64, 0, 0];
+            x.number
+        }
+    }
+}
+
+// Writes 1 and a rule number for a match, 0 and 0 for none, and gives the refusal number.
+pub(crate) fn put_match(found: Match, answer: &mut [u64; 5]) -> u32
+    ensures { λ r. ⌜ Told 2 (saysMatch found) r (now (answer .exit)) ⌝ }
+{
+    match found {
+        Match::Rule(i) => {
+            *answer = [0, 0, 0, 1, i as u64];
+            0
+        }
+        Match::Nothing => {
+            *answer = [0, 0, 0, 0, 0];
+            0
+        }
+        Match::Refused(x) => {
+            *answer = [x.number as u64, x.at as u64, x.then as u64, 0, 0];
+            x.number
+        }
+    }
+}
+
+// Writes 1, 0 and 0 for an order independent list, 0 and the pair for another, and gives the refusal number.
+pub(crate) fn put_pair(pair: Pair, answer: &mut [u64; 6]) -> u32
+    ensures { λ r. ⌜ Told 3 (saysPair pair) r (now (answer .exit)) ⌝ }
+{
+    match pair {
+        Pair::Independent => {
+            *answer = [0, 0, 0, 1, 0, 0];
+            0
+        }
+        Pair::Both(i, j) => {
+            *answer = [0, 0, 0, 0, i as u64, j as u64];
+            0
+        }
+        Pair::Refused(x) => {
+            *answer = [x.number as u64, x.at as u64, x.then as u64, 0, 0, 0];
+            x.number
+        }
+    }
+}
