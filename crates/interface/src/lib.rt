@@ -11,6 +11,7 @@
 //
 // It is thin: each function calls the library and writes its answer down. None has a `requires`: the library refuses
 // what it cannot answer, so a caller owes valid memory and nothing more.
-mod answers;
-pub mod plain;
-pub mod prefixes;
+mod answer;
+pub mod list;
+pub mod prefix;
+pub mod table;

@@ -1,9 +1,9 @@
--- `interface::answers::put_match` meets its contract: in each case of the answer the numbers written are those that it says.
+-- `interface::answer::put_match` meets its contract: in each case of the answer the numbers written are those that it says.
 -- Assumes nothing.
 use borrow.Author.Needs.{needs}
 use Rattle.interface.proofs.Telling.{told}
-use Rattle.interface.proofs.answers.put_match.Statement.{statement}
-use Rattle.interface.proofs.answers.put_match.Tie as tie
+use Rattle.interface.proofs.answer.put_match.Statement.{statement}
+use Rattle.interface.proofs.answer.put_match.Tie as tie
 
 enum-known-found : tie.Need-enum-known-found
 enum-known-found c = search needs

@@ -1,8 +1,8 @@
--- `interface::prefixes::cuy_prefix_to_range` meets its contract: what is told of the library's answer is told of what the library's contract says.
+-- `interface::prefix::cuy_prefix_to_range` meets its contract: what is told of the library's answer is told of what the library's contract says.
 -- Assumes nothing.
 use borrow.Author.Needs.{needs}
-use Rattle.interface.proofs.prefixes.cuy_prefix_to_range.Statement.{statement}
-use Rattle.interface.proofs.prefixes.cuy_prefix_to_range.Tie as tie
+use Rattle.interface.proofs.prefix.cuy_prefix_to_range.Statement.{statement}
+use Rattle.interface.proofs.prefix.cuy_prefix_to_range.Tie as tie
 
 prefix-to-range-requires : tie.Need-prefix-to-range-requires
 prefix-to-range-requires c κs = search needs

@@ -1,13 +1,14 @@
 // How an answer is written into the run of numbers that a caller lends: number, at, then, and then what is answered.
 use lists::independence::Pair;
 use lists::scan::Match;
+use lookup::lookup::Looked;
 use ranges::prefix::Bounds;
 use ranges::refusal::Count;
 ghost use Rattle.ranges.specs.Refusals.{saysCount};
 ghost use Rattle.ranges.specs.Prefixes.{saysBounds};
 ghost use Rattle.lists.specs.Scan.{saysMatch};
 ghost use Rattle.lists.specs.Independence.{saysPair};
-ghost use Rattle.interface.specs.Answers.{Told};
+ghost use Rattle.interface.specs.Answers.{Told, saysInPlace};
 
 // Writes what is counted, and gives the refusal number.
 pub(crate) fn put_count(count: Count, answer: &mut [u64; 4]) -> u32
@@ -75,6 +76,26 @@ pub(crate) fn put_pair(pair: Pair, answer: &mut [u64; 6]) -> u32
             0
         }
         Pair::Refused(x) => {
+            *answer = [x.number as u64, x.at as u64, x.then as u64, 0, 0, 0];
+            x.number
+        }
+    }
+}
+
+// Writes 1 and a rule number for a match, 0 and 0 for none, then the tests, and gives the refusal number.
+pub(crate) fn put_looked(looked: Looked, answer: &mut [u64; 6]) -> u32
+    ensures { λ r. ⌜ Told 3 (saysInPlace looked) r (now (answer .exit)) ⌝ }
+{
+    match looked {
+        Looked::Rule { rule, tests } => {
+            *answer = [0, 0, 0, 1, rule as u64, tests as u64];
+            0
+        }
+        Looked::Nothing { tests } => {
+            *answer = [0, 0, 0, 0, 0, tests as u64];
+            0
+        }
+        Looked::Refused(x) => {
             *answer = [x.number as u64, x.at as u64, x.then as u64, 0, 0, 0];
             x.number
         }

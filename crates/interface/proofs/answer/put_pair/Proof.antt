@@ -1,9 +1,9 @@
--- `interface::answers::put_pair` meets its contract: in each case of the answer the numbers written are those that it says.
+-- `interface::answer::put_pair` meets its contract: in each case of the answer the numbers written are those that it says.
 -- Assumes nothing.
 use borrow.Author.Needs.{needs}
 use Rattle.interface.proofs.Telling.{told}
-use Rattle.interface.proofs.answers.put_pair.Statement.{statement}
-use Rattle.interface.proofs.answers.put_pair.Tie as tie
+use Rattle.interface.proofs.answer.put_pair.Statement.{statement}
+use Rattle.interface.proofs.answer.put_pair.Tie as tie
 
 enum-told : tie.Need-enum-told
 enum-told c = search needs

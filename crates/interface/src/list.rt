@@ -1,7 +1,7 @@
 // Lists: check, plain scan, order independence.
-use crate::answers::put_count;
-use crate::answers::put_match;
-use crate::answers::put_pair;
+use crate::answer::put_count;
+use crate::answer::put_match;
+use crate::answer::put_pair;
 use lists::check::check_list;
 use lists::independence::independence;
 use lists::scan::plain_scan;

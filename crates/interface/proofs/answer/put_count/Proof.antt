@@ -1,9 +1,9 @@
--- `interface::answers::put_count` meets its contract: in each case of the answer the numbers written are those that it says.
+-- `interface::answer::put_count` meets its contract: in each case of the answer the numbers written are those that it says.
 -- Assumes nothing.
 use borrow.Author.Needs.{needs}
 use Rattle.interface.proofs.Telling.{told}
-use Rattle.interface.proofs.answers.put_count.Statement.{statement}
-use Rattle.interface.proofs.answers.put_count.Tie as tie
+use Rattle.interface.proofs.answer.put_count.Statement.{statement}
+use Rattle.interface.proofs.answer.put_count.Tie as tie
 
 enum-known-count : tie.Need-enum-known-count
 enum-known-count c = search needs

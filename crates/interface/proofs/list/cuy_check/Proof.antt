@@ -1,8 +1,8 @@
--- `interface::plain::cuy_check` meets its contract: what is told of the library's answer is told of what the library's contract says.
+-- `interface::list::cuy_check` meets its contract: what is told of the library's answer is told of what the library's contract says.
 -- Assumes nothing.
 use borrow.Author.Needs.{needs}
-use Rattle.interface.proofs.plain.cuy_check.Statement.{statement}
-use Rattle.interface.proofs.plain.cuy_check.Tie as tie
+use Rattle.interface.proofs.list.cuy_check.Statement.{statement}
+use Rattle.interface.proofs.list.cuy_check.Tie as tie
 
 check-list-requires : tie.Need-check-list-requires
 check-list-requires c κs = search needs

@@ -1,9 +1,9 @@
--- `interface::answers::put_bounds` meets its contract: in each case of the answer the numbers written are those that it says.
+-- `interface::answer::put_bounds` meets its contract: in each case of the answer the numbers written are those that it says.
 -- Assumes nothing.
 use borrow.Author.Needs.{needs}
 use Rattle.interface.proofs.Telling.{told}
-use Rattle.interface.proofs.answers.put_bounds.Statement.{statement}
-use Rattle.interface.proofs.answers.put_bounds.Tie as tie
+use Rattle.interface.proofs.answer.put_bounds.Statement.{statement}
+use Rattle.interface.proofs.answer.put_bounds.Tie as tie
 
 enum-known-bounds : tie.Need-enum-known-bounds
 enum-known-bounds c = search needs

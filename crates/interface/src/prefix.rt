@@ -1,6 +1,6 @@
 // Prefixes and ranges.
-use crate::answers::put_bounds;
-use crate::answers::put_count;
+use crate::answer::put_bounds;
+use crate::answer::put_count;
 use ranges::expand::range_to_prefixes;
 use ranges::prefix::prefix_to_range;
 ghost use mathlib.Core.Path.{_≡_};

@@ -1,8 +1,8 @@
--- `interface::plain::cuy_independence` meets its contract: what is told of the library's answer is told of what the library's contract says.
+-- `interface::list::cuy_independence` meets its contract: what is told of the library's answer is told of what the library's contract says.
 -- Assumes nothing.
 use borrow.Author.Needs.{needs}
-use Rattle.interface.proofs.plain.cuy_independence.Statement.{statement}
-use Rattle.interface.proofs.plain.cuy_independence.Tie as tie
+use Rattle.interface.proofs.list.cuy_independence.Statement.{statement}
+use Rattle.interface.proofs.list.cuy_independence.Tie as tie
 
 independence-requires : tie.Need-independence-requires
 independence-requires c κs = search needs

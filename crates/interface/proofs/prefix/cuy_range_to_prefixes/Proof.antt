@@ -1,8 +1,8 @@
--- `interface::prefixes::cuy_range_to_prefixes` meets its contract: what is told of the library's answer is told of what the library's contract says, and so of the run.
+-- `interface::prefix::cuy_range_to_prefixes` meets its contract: what is told of the library's answer is told of what the library's contract says, and so of the run.
 -- Assumes nothing.
 use borrow.Author.Needs.{needs}
-use Rattle.interface.proofs.prefixes.cuy_range_to_prefixes.Statement.{statement}
-use Rattle.interface.proofs.prefixes.cuy_range_to_prefixes.Tie as tie
+use Rattle.interface.proofs.prefix.cuy_range_to_prefixes.Statement.{statement}
+use Rattle.interface.proofs.prefix.cuy_range_to_prefixes.Tie as tie
 
 range-to-prefixes-requires : tie.Need-range-to-prefixes-requires
 range-to-prefixes-requires c κs = search needs

@@ -1,8 +1,8 @@
--- `interface::plain::cuy_plain_scan` meets its contract: what is told of the library's answer is told of what the library's contract says.
+-- `interface::list::cuy_plain_scan` meets its contract: what is told of the library's answer is told of what the library's contract says.
 -- Assumes nothing.
 use borrow.Author.Needs.{needs}
-use Rattle.interface.proofs.plain.cuy_plain_scan.Statement.{statement}
-use Rattle.interface.proofs.plain.cuy_plain_scan.Tie as tie
+use Rattle.interface.proofs.list.cuy_plain_scan.Statement.{statement}
+use Rattle.interface.proofs.list.cuy_plain_scan.Tie as tie
 
 plain-scan-requires : tie.Need-plain-scan-requires
 plain-scan-requires c κs = search needs
