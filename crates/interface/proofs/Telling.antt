@@ -1,4 +1,4 @@
--- An answer laid out as numbers.
+-- An answer laid out as numbers: what a proof of a function that writes one cites.
 -- Assumes nothing.
 use Prim.Native.Nat.{ℕ}
 use mathlib.Core.Path.{_≡_, refl}
