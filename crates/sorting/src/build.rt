@@ -1,6 +1,6 @@
 // The build of a table, with its refusals.
-use crate::written::write_built;
 use crate::layout::table_length;
+use crate::written::write_built;
 use lists::check::list_fault;
 use lists::shape::Shape;
 use lists::shape::rules_in;

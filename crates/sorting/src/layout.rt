@@ -14,7 +14,9 @@ ghost use Rattle.sorting.specs.Opening.{opening, openFault};
 
 // Where n, d and b stand.
 pub const RULES_AT: usize = 0;
+
 pub const FIELDS_AT: usize = 1;
+
 pub const PARTS_AT: usize = 2;
 
 // Gives the length of a table of n rules of d fields.
