@@ -24,6 +24,8 @@ use Rattle.interface.proofs.table.cuy_lookup.Kinds as lookup-kinds
 use Rattle.interface.proofs.table.cuy_lookup.Reads as lookup
 use Rattle.interface.proofs.table.cuy_audit.Kinds as audit-kinds
 use Rattle.interface.proofs.table.cuy_audit.Reads as audit
+use Rattle.interface.proofs.table.cuy_report.Kinds as report-kinds
+use Rattle.interface.proofs.table.cuy_report.Reads as report
 use Rattle.interface.proofs.prefix.cuy_prefix_to_range.Kinds as prefix-to-range-kinds
 use Rattle.interface.proofs.prefix.cuy_prefix_to_range.Reads as prefix-to-range
 use Rattle.interface.proofs.prefix.cuy_range_to_prefixes.Kinds as range-to-prefixes-kinds
@@ -80,6 +82,12 @@ audit-one κs a x y e g p q = returned-one p q
 
 pub audit-answer-one : OneRun 3 audit-kinds.ps audit-kinds.r audit.Learnt (λ κs e. now (e .1 .1 .1 .0))
 audit-answer-one κs a x y e g p q = written-one p q
+
+pub report-one : OneAnswer 3 report-kinds.ps report-kinds.r report.Learnt
+report-one κs a x y e g p q = returned-one p q
+
+pub report-answer-one : OneRun 3 report-kinds.ps report-kinds.r report.Learnt (λ κs e. now (e .1 .1 .1 .1 .0))
+report-answer-one κs a x y e g p q = written-one p q
 
 pub prefix-to-range-one : OneAnswer 1 prefix-to-range-kinds.ps prefix-to-range-kinds.r prefix-to-range.Learnt
 prefix-to-range-one κs a x y e g p q = returned-one p q
