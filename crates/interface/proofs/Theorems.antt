@@ -1,0 +1,125 @@
+-- The numbers that C gets lose nothing: what the library answers is read back from them, for every input. The readers of
+-- `Back.antt` get an answer back that is no refusal with the number 0, and the library gives no such refusal.
+--     check-told           cuy_check
+--     scan-told            cuy_plain_scan
+--     independence-told    cuy_independence
+--     build-told           cuy_build
+--     lookup-told          cuy_lookup
+--     audit-told           cuy_audit
+--     report-told          cuy_report
+--     range-told           cuy_prefix_to_range
+--     prefixes-told        cuy_range_to_prefixes
+-- Assumes nothing.
+use Prim.Native.Nat.{ℕ, zero, suc, _+_}
+use mathlib.Core.Bool.{Bool, true, false}
+use mathlib.Core.List.{List}
+use mathlib.Core.Path.{_≡_, refl}
+use lib.Dec.{eqb, ltb}
+use borrow.Author.Tests.{eqb-false}
+use lib.ListN.{length}
+use Rattle.ranges.specs.Numbers.{pick}
+use Rattle.ranges.specs.Refusals.{stands, saysCount, countUnless}
+use Rattle.ranges.specs.Prefixes.{prefixFault, highOf, boundsOf, saysBounds}
+use Rattle.ranges.specs.Blocks.{prefixesOf, expandFault, expandOf}
+use Rattle.ranges.specs.declared.refusal.Refusal.{Refusal}
+use Rattle.ranges.specs.declared.refusal.Count.the-variants as count
+use Rattle.ranges.specs.declared.prefix.Bounds.the-variants as bounds
+use Rattle.lists.specs.Rules.{Rules, rulesIn}
+use Rattle.lists.specs.Faults.{listFault}
+use Rattle.lists.specs.Check.{checkOf}
+use Rattle.lists.specs.FirstMatch.{firstMatch}
+use Rattle.lists.specs.Scan.{matchOf, scanOf, saysMatch}
+use Rattle.lists.specs.Independence.{paired, partnerOf, pairOf, independenceOf, saysPair}
+use Rattle.lists.specs.declared.scan.Match.the-variants as match
+use Rattle.lists.specs.declared.independence.Pair.the-variants as pair
+use Rattle.sorting.specs.Build.{buildFault, builtParts, buildOf, sameNumbers, auditOf, saysVerdict}
+use Rattle.sorting.specs.Report.{sizeOf, leastRule, reportFault, reportOf, saysPart}
+use Rattle.sorting.specs.Layout.{View}
+use Rattle.sorting.specs.Opening.{viewOf, openFault}
+use Rattle.sorting.specs.Table.{builtTable}
+use Rattle.sorting.specs.declared.audit.Verdict.the-variants as verdict
+use Rattle.sorting.specs.declared.report.Part.the-variants as part
+use Rattle.lookup.specs.Lookup.{visitOf, afterVisit, better, lookupFrom, searchOf, lookupOf}
+use Rattle.lookup.specs.declared.walk.Walked.{Walked}
+use Rattle.lookup.specs.declared.walk.Walked.the-variants.{Ran, Broken}
+use Rattle.lookup.specs.declared.walk.Found.{Found}
+use Rattle.lookup.specs.declared.lookup.Looked.{Looked}
+use Rattle.lookup.specs.declared.lookup.Looked.the-variants as looked
+use Rattle.interface.specs.Answers.{numbersOf, saysInPlace}
+use Rattle.interface.proofs.Back.{Refuses, CountRefuses, countIn, count-back, BoundsRefuse, boundsIn, bounds-back, MatchRefuses, matchIn, match-back, PairRefuses, pairIn, pair-back, VerdictRefuses, verdictIn, verdict-back, PartRefuses, partIn, part-back, LookedRefuses, lookedIn, looked-back}
+
+-- what holds of both holds of the one picked
+either : {A : Type 0} (P : A → Type 0) (t : Bool) (a b : A) → P a → P b → P (pick t a b)
+either P true a b p q = p
+either P false a b p q = q
+
+-- a is given unless x refuses, and then r
+unless : {A : Type 0} (P : A → Type 0) (x : Refusal) (a r : A) → P a → (Refuses x → P r) → P (pick (stands x) a r)
+unless {A} P x a r p q = go (stands x) refl
+  where
+    go : (t : Bool) → stands x ≡ t → P (pick t a r)
+    go true is = p
+    go false is = q (eqb-false (x .number) 0 is)
+
+counted : (x : Refusal) (k : ℕ) → CountRefuses (countUnless x k)
+counted x k = unless CountRefuses x (count.Is k) (count.Refused x) tt (λ r. r)
+
+pub check-told : (R : Rules) → countIn (numbersOf 1 (saysCount (checkOf R))) ≡ checkOf R
+check-told R = count-back (checkOf R) (counted (listFault R) (rulesIn R))
+
+pub prefixes-told : (w low high : ℕ) (run : List ℕ) → countIn (numbersOf 1 (saysCount (expandOf w low high run))) ≡ expandOf w low high run
+prefixes-told w low high run = count-back (expandOf w low high run) (counted (expandFault w low high run) (length (prefixesOf w low high)))
+
+pub range-told : (w value len : ℕ) → boundsIn (numbersOf 2 (saysBounds (boundsOf w value len))) ≡ boundsOf w value len
+range-told w value len =
+    let fault = prefixFault w value len in
+    bounds-back (boundsOf w value len) (unless BoundsRefuse fault (bounds.Are value (highOf w value len)) (bounds.Refused fault) tt (λ r. r))
+
+pub scan-told : (R : Rules) (h : List ℕ) → matchIn (numbersOf 2 (saysMatch (scanOf R h))) ≡ scanOf R h
+scan-told R h =
+    match-back (scanOf R h)
+    (unless MatchRefuses (listFault R) (matchOf R h) (match.Refused (listFault R))
+    (either MatchRefuses (ltb (firstMatch R h) (rulesIn R)) (match.Rule (firstMatch R h)) match.Nothing tt tt)
+    (λ r. r))
+
+pub independence-told : (R : Rules) → pairIn (numbersOf 3 (saysPair (independenceOf R))) ≡ independenceOf R
+independence-told R =
+    pair-back (independenceOf R)
+    (unless PairRefuses (listFault R) (pairOf R) (pair.Refused (listFault R))
+    (either PairRefuses (ltb (paired R) (rulesIn R)) (pair.Both (paired R) (partnerOf R (paired R))) pair.Independent tt tt)
+    (λ r. r))
+
+pub build-told : (R : Rules) (T : List ℕ) → countIn (numbersOf 1 (saysCount (buildOf R T))) ≡ buildOf R T
+build-told R T = count-back (buildOf R T) (counted (buildFault R T) (builtParts R))
+
+pub audit-told : (R : Rules) (T : List ℕ) → verdictIn (numbersOf 1 (saysVerdict (auditOf R T))) ≡ auditOf R T
+audit-told R T =
+    verdict-back (auditOf R T)
+    (unless VerdictRefuses (buildFault R T) (pick (sameNumbers T (builtTable R)) verdict.Yes verdict.No) (verdict.Refused (buildFault R T))
+    (either VerdictRefuses (sameNumbers T (builtTable R)) verdict.Yes verdict.No tt tt)
+    (λ r. r))
+
+pub report-told : (R : Rules) (T : List ℕ) (q : ℕ) → partIn (numbersOf 2 (saysPart (reportOf R T q))) ≡ reportOf R T q
+report-told R T q =
+    let v = viewOf R T in
+    part-back (reportOf R T q)
+    (unless PartRefuses (reportFault R T q) (part.Is (sizeOf v q) (leastRule (rulesIn R) v q)) (part.Refused (reportFault R T q)) tt (λ r. r))
+
+-- a broken partition is refused with 6
+visited : (w : Walked) (next : Found → ℕ → Looked) → ((x : Found) (u : ℕ) → LookedRefuses (next x u)) → LookedRefuses (afterVisit w next)
+visited (Ran x u) next p = p x u
+visited Broken next p = eqb-false 6 0 refl
+
+module _ (R : Rules) (v : View) (h : List ℕ) where
+  searched : (k q best t : ℕ) → LookedRefuses (lookupFrom R v h k q best t)
+  unfolding lookupFrom
+  searched zero q best t = either LookedRefuses (ltb best (rulesIn R)) (looked.Rule best t) (looked.Nothing t) tt tt
+  searched (suc k) q best t =
+      visited (visitOf R v h q) (λ x u. lookupFrom R v h k (suc q) (better best x) (t + u)) (λ x u. searched k (suc q) (better best x) (t + u))
+
+pub lookup-told : (R : Rules) (T h : List ℕ) → lookedIn (numbersOf 3 (saysInPlace (lookupOf R T h))) ≡ lookupOf R T h
+unfolding lookupOf
+lookup-told R T h =
+    let v = viewOf R T in
+    looked-back (lookupOf R T h)
+    (unless LookedRefuses (openFault R T) (searchOf R v h) (looked.Refused (openFault R T)) (searched R v h (v .b) 0 (rulesIn R) 0) (λ r. r))

@@ -1,0 +1,140 @@
+//! Cuyenalot for Rust on x86-64 Linux: a safe wrapper of the functions that `include/cuyenalot.h` declares and explains.
+//!
+//! A caller owes those functions valid memory and nothing more, and Rust's references are that: every slice is as long as it
+//! says, and a `&mut` overlaps nothing. So no function here tests anything, and each is safe for every input.
+//! Link with `-L native=target/staticlib` after `rt staticlib interface`.
+
+/// A header: eight numbers, of which the first d are read.
+pub type Header = [u32; 8];
+
+/// A refusal: its number, from the table of the C header, and its place of two numbers.
+#[derive(Clone, Copy, Debug, PartialEq, Eq)]
+pub struct Refusal {
+    pub number: u32,
+    pub at: usize,
+    pub then: usize,
+}
+
+/// What a lookup finds: the rule, or none, and the number of range tests.
+#[derive(Clone, Copy, Debug, PartialEq, Eq)]
+pub struct Looked {
+    pub rule: Option<usize>,
+    pub tests: usize,
+}
+
+/// A partition: how many rules it has, and the smallest rule number.
+#[derive(Clone, Copy, Debug, PartialEq, Eq)]
+pub struct Part {
+    pub size: usize,
+    pub least: usize,
+}
+
+mod c {
+    #[link(name = "interface", kind = "static")]
+    extern "C" {
+        pub fn cuy_check(d: usize, list: *const u32, list_length: usize, answer: &mut [u64; 4]) -> u32;
+        pub fn cuy_plain_scan(d: usize, list: *const u32, list_length: usize, header: &[u32; 8], answer: &mut [u64; 5]) -> u32;
+        pub fn cuy_independence(d: usize, list: *const u32, list_length: usize, answer: &mut [u64; 6]) -> u32;
+        pub fn cuy_build(d: usize, list: *const u32, list_length: usize, table: *mut u16, table_length: usize, answer: &mut [u64; 4]) -> u32;
+        pub fn cuy_lookup(d: usize, list: *const u32, list_length: usize, table: *const u16, table_length: usize, header: &[u32; 8], answer: &mut [u64; 6]) -> u32;
+        pub fn cuy_audit(d: usize, list: *const u32, list_length: usize, table: *const u16, table_length: usize, answer: &mut [u64; 4]) -> u32;
+        pub fn cuy_report(d: usize, list: *const u32, list_length: usize, table: *const u16, table_length: usize, partition: usize, answer: &mut [u64; 5]) -> u32;
+        pub fn cuy_prefix_to_range(width: u32, value: u32, length: u32, answer: &mut [u64; 5]) -> u32;
+        pub fn cuy_range_to_prefixes(width: u32, low: u32, high: u32, run: *mut u32, run_length: usize, answer: &mut [u64; 4]) -> u32;
+    }
+}
+
+/// How many numbers the table of n rules of d fields has.
+pub const fn table_length(n: usize, d: usize) -> usize {
+    4 + 2 * n + 2 * n * d
+}
+
+/// Checks a list: its number of rules.
+pub fn check(d: usize, list: &[u32]) -> Result<usize, Refusal> {
+    let mut answer = [0; 4];
+    let number = unsafe { c::cuy_check(d, list.as_ptr(), list.len(), &mut answer) };
+    told(number, &answer)?;
+    Ok(answer[3] as usize)
+}
+
+/// Scans a list plainly: the first match, or none.
+pub fn plain_scan(d: usize, list: &[u32], header: &Header) -> Result<Option<usize>, Refusal> {
+    let mut answer = [0; 5];
+    let number = unsafe { c::cuy_plain_scan(d, list.as_ptr(), list.len(), header, &mut answer) };
+    told(number, &answer)?;
+    Ok(match_in(&answer))
+}
+
+/// Tests a list for order independence: none, or the least pair of rules that some header fits.
+pub fn independence(d: usize, list: &[u32]) -> Result<Option<(usize, usize)>, Refusal> {
+    let mut answer = [0; 6];
+    let number = unsafe { c::cuy_independence(d, list.as_ptr(), list.len(), &mut answer) };
+    told(number, &answer)?;
+    Ok(if answer[3] == 1 { None } else { Some((answer[4] as usize, answer[5] as usize)) })
+}
+
+/// Builds the table of a list: its number of partitions. A refusal leaves the table as lent.
+pub fn build(d: usize, list: &[u32], table: &mut [u16]) -> Result<usize, Refusal> {
+    let mut answer = [0; 4];
+    let number = unsafe { c::cuy_build(d, list.as_ptr(), list.len(), table.as_mut_ptr(), table.len(), &mut answer) };
+    told(number, &answer)?;
+    Ok(answer[3] as usize)
+}
+
+/// Looks a header up in a table: the rule, or none, and the range tests.
+pub fn lookup(d: usize, list: &[u32], table: &[u16], header: &Header) -> Result<Looked, Refusal> {
+    let mut answer = [0; 6];
+    let number = unsafe { c::cuy_lookup(d, list.as_ptr(), list.len(), table.as_ptr(), table.len(), header, &mut answer) };
+    told(number, &answer)?;
+    Ok(Looked { rule: match_in(&answer), tests: answer[5] as usize })
+}
+
+/// Audits a table: whether it is, number for number, what a build writes for this list.
+pub fn audit(d: usize, list: &[u32], table: &[u16]) -> Result<bool, Refusal> {
+    let mut answer = [0; 4];
+    let number = unsafe { c::cuy_audit(d, list.as_ptr(), list.len(), table.as_ptr(), table.len(), &mut answer) };
+    told(number, &answer)?;
+    Ok(answer[3] == 1)
+}
+
+/// Reports on a partition of a table.
+pub fn report(d: usize, list: &[u32], table: &[u16], partition: usize) -> Result<Part, Refusal> {
+    let mut answer = [0; 5];
+    let number = unsafe { c::cuy_report(d, list.as_ptr(), list.len(), table.as_ptr(), table.len(), partition, &mut answer) };
+    told(number, &answer)?;
+    Ok(Part { size: answer[3] as usize, least: answer[4] as usize })
+}
+
+/// Turns a prefix of a width into its range, low and high, both counted.
+pub fn prefix_to_range(width: u32, value: u32, length: u32) -> Result<(u32, u32), Refusal> {
+    let mut answer = [0; 5];
+    let number = unsafe { c::cuy_prefix_to_range(width, value, length, &mut answer) };
+    told(number, &answer)?;
+    Ok((answer[3] as u32, answer[4] as u32))
+}
+
+/// Turns the range low to high into prefixes, pairs of value and length at the front of the run: how many pairs. A refusal
+/// leaves the run as lent; 12 says at how many pairs are needed.
+pub fn range_to_prefixes(width: u32, low: u32, high: u32, run: &mut [u32]) -> Result<usize, Refusal> {
+    let mut answer = [0; 4];
+    let number = unsafe { c::cuy_range_to_prefixes(width, low, high, run.as_mut_ptr(), run.len(), &mut answer) };
+    told(number, &answer)?;
+    Ok(answer[3] as usize)
+}
+
+/// The refusal that a call gave, if any.
+fn told(number: u32, answer: &[u64]) -> Result<(), Refusal> {
+    if number == 0 {
+        return Ok(());
+    }
+    Err(Refusal { number, at: answer[1] as usize, then: answer[2] as usize })
+}
+
+/// The match that a call answered, if any.
+fn match_in(answer: &[u64]) -> Option<usize> {
+    if answer[3] == 1 {
+        Some(answer[4] as usize)
+    } else {
+        None
+    }
+}

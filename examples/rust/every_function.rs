@@ -1,0 +1,108 @@
+//! Calls every function of the wrapper on 01's worked cases and on inputs that it refuses, and prints each answer: what is
+//! answered, or refused, the number and the place. Prints what `examples/c/every_function.c` prints.
+mod cuyenalot;
+
+use cuyenalot::*;
+
+const FIELDS: usize = 2;
+const NUMBERS: usize = 20;
+const TABLE: usize = table_length(5, FIELDS);
+
+/// The bench list.
+const BENCH: [u32; NUMBERS] = [7, 7, 100, 100, 7, 7, 200, 299, 8, 8, 0, 999, 7, 7, 0, 999, 0, 9, 0, 999];
+
+/// The same, but for rule 3, whose range in field 1 is 9-3.
+const CROSSED: [u32; NUMBERS] = [7, 7, 100, 100, 7, 7, 200, 299, 8, 8, 0, 999, 7, 7, 9, 3, 0, 9, 0, 999];
+
+/// 1,025 rules of one field.
+const MANY: [u32; 2 * 1025] = [0; 2 * 1025];
+
+const B4: Header = [7, 150, 0, 0, 0, 0, 0, 0];
+const B7: Header = [10, 0, 0, 0, 0, 0, 0, 0];
+
+/// Prints a line: what was called, and the numbers that it answered or its refusal.
+fn say<const K: usize>(what: &str, answer: Result<[usize; K], Refusal>) {
+    match answer {
+        Ok(numbers) => println!("{}:{}", what, listed(&numbers)),
+        Err(refusal) => println!("{}: refused {} at {} then {}", what, refusal.number, refusal.at, refusal.then),
+    }
+}
+
+/// Numbers with a space before each.
+fn listed<T: ToString>(numbers: &[T]) -> String {
+    numbers.iter().map(|number| " ".to_string() + &number.to_string()).collect()
+}
+
+/// A match as the C functions answer one: 1 and the rule number, or 0 and 0.
+fn matched(rule: Option<usize>) -> [usize; 2] {
+    rule.map_or([0, 0], |rule| [1, rule])
+}
+
+/// A test of order independence as the C function answers it: 1, 0, 0, or 0 and the pair.
+fn paired(pair: Option<(usize, usize)>) -> [usize; 3] {
+    pair.map_or([1, 0, 0], |(i, j)| [0, i, j])
+}
+
+/// A lookup as the C function answers it: the match, then the tests.
+fn looked(looked: Looked) -> [usize; 3] {
+    let [found, rule] = matched(looked.rule);
+    [found, rule, looked.tests]
+}
+
+fn main() {
+    say("check the bench list", check(FIELDS, &BENCH).map(|n| [n]));
+    say("check 9 fields", check(9, &BENCH).map(|n| [n]));
+    say("check one number short", check(FIELDS, &BENCH[..NUMBERS - 1]).map(|n| [n]));
+    say("check 1025 rules", check(1, &MANY).map(|n| [n]));
+    say("check 9-3 in rule 3, field 1", check(FIELDS, &CROSSED).map(|n| [n]));
+
+    say("scan for 7, 150", plain_scan(FIELDS, &BENCH, &B4).map(matched));
+    say("scan for 10, 0", plain_scan(FIELDS, &BENCH, &B7).map(matched));
+    say("scan past 9-3", plain_scan(FIELDS, &CROSSED, &B4).map(matched));
+
+    say("independence of the bench list", independence(FIELDS, &BENCH).map(paired));
+    say("independence of its first three rules", independence(FIELDS, &BENCH[..12]).map(paired));
+    say("independence with 9-3", independence(FIELDS, &CROSSED).map(paired));
+
+    let mut table = [65535; TABLE];
+    say("build with 9-3", build(FIELDS, &CROSSED, &mut table).map(|b| [b]));
+    say("build one number short", build(FIELDS, &BENCH, &mut table[..TABLE - 1]).map(|b| [b]));
+    println!("table:{}", listed(&table));
+    say("build", build(FIELDS, &BENCH, &mut table).map(|b| [b]));
+    println!("table:{}", listed(&table));
+    let mut small = [65535; 4];
+    say("build of no rules", build(1, &[], &mut small).map(|b| [b]));
+    println!("table:{}", listed(&small));
+
+    say("look up 7, 150", lookup(FIELDS, &BENCH, &table, &B4).map(looked));
+    say("look up 10, 0", lookup(FIELDS, &BENCH, &table, &B7).map(looked));
+    say("look up one number short", lookup(FIELDS, &BENCH, &table[..TABLE - 1], &B4).map(looked));
+
+    say("audit", audit(FIELDS, &BENCH, &table).map(|same| [same as usize]));
+    say("audit with 9-3", audit(FIELDS, &CROSSED, &table).map(|same| [same as usize]));
+
+    say("report on partition 0", report(FIELDS, &BENCH, &table, 0).map(|part| [part.size, part.least]));
+    say("report on partition 1", report(FIELDS, &BENCH, &table, 1).map(|part| [part.size, part.least]));
+    say("report on partition 3", report(FIELDS, &BENCH, &table, 3).map(|part| [part.size, part.least]));
+
+    table[TABLE - 1] += 1;
+    say("audit with another last number", audit(FIELDS, &BENCH, &table).map(|same| [same as usize]));
+    say("look up with another last number", lookup(FIELDS, &BENCH, &table, &B4).map(looked));
+    table[3] = 5;
+    say("report with a rule too many", report(FIELDS, &BENCH, &table, 0).map(|part| [part.size, part.least]));
+
+    say("range of (16, 2), width 5", prefix_to_range(5, 16, 2).map(|(low, high)| [low as usize, high as usize]));
+    say("range of (0, 0), width 32", prefix_to_range(32, 0, 0).map(|(low, high)| [low as usize, high as usize]));
+    say("range of (0, 0), width 33", prefix_to_range(33, 0, 0).map(|(low, high)| [low as usize, high as usize]));
+    say("range of (17, 2), width 5", prefix_to_range(5, 17, 2).map(|(low, high)| [low as usize, high as usize]));
+
+    let mut run = [4294967295; 17];
+    say("prefixes of 1 to 30 in 7 places", range_to_prefixes(5, 1, 30, &mut run[..15]).map(|count| [count]));
+    say("prefixes of 3 to 2", range_to_prefixes(5, 3, 2, &mut run).map(|count| [count]));
+    say("prefixes of 0 to 1, width 0", range_to_prefixes(0, 0, 1, &mut run).map(|count| [count]));
+    println!("run:{}", listed(&run));
+    say("prefixes of 1 to 30, width 5", range_to_prefixes(5, 1, 30, &mut run).map(|count| [count]));
+    println!("run:{}", listed(&run));
+    say("prefixes of all, width 32", range_to_prefixes(32, 0, 4294967295, &mut run).map(|count| [count]));
+    println!("run:{}", listed(&run[..2]));
+}

@@ -1,0 +1,117 @@
+/* Cuyenalot for C and C++ on x86-64 Linux: the first match of a header in a list of rules, by a sorted-partition table.
+ *
+ * These are the functions of target/staticlib/libinterface.a, which `rt staticlib interface` proves and writes. Each is
+ * proved to answer what its comment says, for every input; the contracts stand in crates/interface/src.
+ *
+ * Words
+ *
+ * A list is a run of 32-bit numbers, 2d a rule: low and high of field 0, then of field 1, and so on. d fields, 1 to 8; n
+ * rules, 0 to 1,024. Rule numbers start at 0; a lower number has the higher priority. A header is eight 32-bit numbers,
+ * of which the first d are read. A rule fits a header when low <= number <= high in all d fields; the first match is the
+ * smallest rule number that fits. A table is a run of 16-bit numbers, exactly CUY_TABLE_LENGTH(n, d) long.
+ *
+ * What comes back
+ *
+ * Every function returns the refusal number, 0 where nothing is refused, and writes every number of its answer:
+ *
+ *     answer[0]       the refusal number once more
+ *     answer[1], [2]  the refusal's place, at and then; 0 and 0 where nothing is refused
+ *     answer[3], ..   what the operation answers, as said at the function; all 0 where it refuses
+ *
+ * A refusal leaves every other run as it was lent. A function that may give several refusals gives the first of those
+ * that its comment lists.
+ *
+ * What a caller owes
+ *
+ * Every pointer is aligned for its type and not null, also where the length beside it is 0. It points to as many numbers
+ * as that length says, or the brackets of the parameter. A run that a call writes overlaps no other run of that call, and
+ * nothing else writes to any of them while the call runs. Nothing more: the numbers may be any.
+ *
+ * The functions keep nothing between calls and allocate nothing. cuy_audit takes some 41 KB of stack, the others less than
+ * 8 KB (measured, not proved). The archive wants memcpy and memset of the C library, and nothing else.
+ */
+#ifndef CUYENALOT_H
+#define CUYENALOT_H
+
+#include <stddef.h>
+#include <stdint.h>
+
+#ifdef __cplusplus
+extern "C" {
+#endif
+
+/* The refusals: number, when, and the place (0, 0 where none is named). */
+enum cuy_refusal {
+    CUY_BAD_FIELDS = 1,        /* d is not 1 to 8 */
+    CUY_BAD_LENGTH = 2,        /* the list's length is no multiple of 2d */
+    CUY_TOO_MANY_RULES = 3,    /* more than 1,024 rules */
+    CUY_LOW_ABOVE_HIGH = 4,    /* some low > high; at the smallest such rule number, then its smallest such field */
+    CUY_BAD_TABLE_LENGTH = 5,  /* the table's length is not exactly CUY_TABLE_LENGTH(n, d) */
+    CUY_BROKEN_TABLE = 6,      /* broken table: numbers of it that the call reads do not hold together */
+    CUY_NO_SUCH_PARTITION = 7, /* the partition number is b or more */
+    CUY_BAD_LINE = 8,          /* a CSV line is not as it must be: the program's alone, no function here gives it */
+    CUY_BAD_WIDTH = 9,         /* the width is not 1 to 32 */
+    CUY_BAD_PREFIX = 10,       /* prefix length > width, value needs more than width bits, or a bit below the prefix is set */
+    CUY_BAD_RANGE = 11,        /* the range has low > high, or high needs more than width bits */
+    CUY_TOO_LITTLE_ROOM = 12   /* fewer places lent than prefixes to write; at how many are needed */
+};
+
+/* How many numbers the table of n rules of d fields has. */
+#define CUY_TABLE_LENGTH(n, d) (4 + 2 * (size_t)(n) + 2 * (size_t)(n) * (size_t)(d))
+
+/* Checks a list. Answers n, the number of its rules, in answer[3].
+ * Refuses with 1, 2, 3, 4. */
+uint32_t cuy_check(size_t d, const uint32_t *list, size_t list_length, uint64_t answer[4]);
+
+/* Scans a list plainly. Answers 1 in answer[3] and the first match in answer[4]; or 0 in both where no rule fits.
+ * Refuses with 1, 2, 3, 4. */
+uint32_t cuy_plain_scan(size_t d, const uint32_t *list, size_t list_length, const uint32_t header[8],
+                        uint64_t answer[5]);
+
+/* Tests a list for order independence. Answers 1 in answer[3], and 0 in answer[4] and [5], exactly when no header fits two
+ * different rules. Otherwise 0 in answer[3], and in answer[4] < answer[5] the pair of rules that some header fits, with
+ * the smallest first rule number, then the smallest second.
+ * Refuses with 1, 2, 3, 4. */
+uint32_t cuy_independence(size_t d, const uint32_t *list, size_t list_length, uint64_t answer[6]);
+
+/* Builds the table of a list: writes every number of it. Answers b, the number of its partitions, in answer[3].
+ * Refuses with 1, 2, 3, 4, 5. */
+uint32_t cuy_build(size_t d, const uint32_t *list, size_t list_length, uint16_t *table, size_t table_length,
+                   uint64_t answer[4]);
+
+/* Looks a header up in a table. Answers 1 in answer[3] and a rule number in answer[4], or 0 in both where no rule fits; and
+ * in answer[5] the number of range tests. In a table that cuy_build wrote for this list the rule is the first match, and
+ * nothing is refused. In any other table a rule that is answered still fits the header.
+ * Refuses with 1, 2, 3, 5, 6; never with 4, since it does not read the whole list. */
+uint32_t cuy_lookup(size_t d, const uint32_t *list, size_t list_length, const uint16_t *table, size_t table_length,
+                    const uint32_t header[8], uint64_t answer[6]);
+
+/* Audits a table. Answers 1 in answer[3] exactly when every number of the table is what cuy_build would write for this
+ * list, else 0.
+ * Refuses with 1, 2, 3, 4, 5. */
+uint32_t cuy_audit(size_t d, const uint32_t *list, size_t list_length, const uint16_t *table, size_t table_length,
+                   uint64_t answer[4]);
+
+/* Reports on a partition of a table. Answers its size in answer[3] and its smallest rule number in answer[4], worked out
+ * by reading its places.
+ * Refuses with 1, 2, 3, 5, with 6 for a table that does not open, with 7, with 6 for a broken partition. */
+uint32_t cuy_report(size_t d, const uint32_t *list, size_t list_length, const uint16_t *table, size_t table_length,
+                    size_t partition, uint64_t answer[5]);
+
+/* Turns a prefix of a width into its range. Answers low in answer[3] and high in answer[4], both counted.
+ * Refuses with 9, 10. */
+uint32_t cuy_prefix_to_range(uint32_t width, uint32_t value, uint32_t length, uint64_t answer[5]);
+
+/* Turns the range low to high, both counted, into prefixes: from the low end, always the largest aligned block that stays
+ * in the range. Writes pairs of value and length, two numbers each, in ascending order at the front of the run, and leaves
+ * what lies past the last pair. Answers how many pairs in answer[3]: at most 2 * width - 2 for a width of 2 or more,
+ * and 1 for a width of 1. A run of run_length numbers has room for half as many pairs, rounded down.
+ * Refuses with 9, 11, 12. */
+uint32_t cuy_range_to_prefixes(uint32_t width, uint32_t low, uint32_t high, uint32_t *run, size_t run_length,
+                               uint64_t answer[4]);
+
+#ifdef __cplusplus
+}
+#endif
+
+#endif
