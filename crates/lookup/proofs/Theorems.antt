@@ -58,7 +58,7 @@ use Rattle.lookup.proofs.Unread.{Agree, lookup-same}
 use Rattle.lookup.proofs.Refusing.{RefusedBy, refused-by, lookup-broken, lookup-fine}
 use Rattle.lookup.proofs.Lookups.{lookup-refused}
 use Rattle.lookup.proofs.Firsts.{lookup-first}
-use Rattle.lookup.proofs.Totals.{power-within, visit-tests, sum-le, lookup-sum, none-costs-none}
+use Rattle.lookup.proofs.Totals.{answer-tests, power-within, visit-tests, sum-le, lookup-sum, none-costs-none}
 use Rattle.lookup.proofs.Reached.{ladder-sound, ladder-rules, ladder-stands, ladder-parts, ladder-reaches}
 
 -- ---- 1. every answer and every refusal is the written one
@@ -90,13 +90,6 @@ pub numbers-past-d-unread : (R : Rules) (T h h′ : List ℕ) → Agree (fieldsO
 numbers-past-d-unread = lookup-same
 
 -- ---- 2. the match is the first match
-answer-tests : (R : Rules) (best t : ℕ) → testsIn (answerOf R best t) ≡ t
-answer-tests R best t = go (ltb best (rulesIn R))
-  where
-    go : (p : Bool) → testsIn (pick p (Rule best t) (Nothing t)) ≡ t
-    go true = refl
-    go false = refl
-
 -- the promise is all that the lookup layer relies on: whoever keeps it gets first match, however the table was made
 pub lookup-is-first-match : (R : Rules) (T : List ℕ) → Shaped R → TableFor (rulesIn R) (fieldsOf R) T → Promise R (viewOf R T) → (h : List ℕ)
     → lookupOf R T h ≡ answerOf R (firstMatch R h) (testsIn (lookupOf R T h))

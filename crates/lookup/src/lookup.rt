@@ -7,6 +7,7 @@ use lists::shape::rules_in;
 use ranges::refusal::BROKEN_TABLE;
 use ranges::refusal::Refusal;
 use ranges::refusal::refuse;
+use sorting::layout::PARTS_AT;
 use sorting::layout::open_fault;
 use sorting::layout::start_at;
 ghost use mathlib.Core.Path.{_≡_};
@@ -94,6 +95,6 @@ pub fn lookup(shape: Shape, list: &[u32], table: &[u16], header: [u32; 8]) -> Lo
     }
     let n = rules_in(shape, list) as u16;
     // 01, The working table: n, d, b.
-    let b = table[2];
+    let b = table[PARTS_AT];
     visit_all(shape, n, b, list, table, &header)
 }

@@ -1,8 +1,7 @@
 -- What the answers of an audit and of a report say tells them apart (`specs/Build.antt`, `specs/Report.antt`).
 --     verdict-said-one, part-said-one     two answers that say the same are one
 -- Assumes nothing.
-use Prim.Native.Nat.{ℕ}
-use mathlib.Core.List.{List, [], _∷_}
+use mathlib.Core.List.{[], _∷_}
 use mathlib.Core.Path.{_≡_, refl, ap}
 use Rattle.ranges.specs.Refusals.{none}
 use Rattle.ranges.proofs.Numbers.{never}

@@ -10,27 +10,25 @@
 use Prim.Native.Nat.{ℕ, _≤_}
 use mathlib.Core.Bool.{Bool, true, false}
 use mathlib.Core.List.{List, _++_}
-use mathlib.Core.Path.{_≡_, refl, sym, ap, _∙_, subst}
+use mathlib.Core.Path.{_≡_, refl, sym, ap, _∙_}
 use native.Mathlib.Omega.{arith}
 use lib.ListN.{length, take, replicate, length-append, length-replicate}
 use lib.Seq.{take-at, length-take-le}
 use lib.Dec.{ltb, eqb}
 use borrow.Author.Tests.{eq-eqb, ne-eqb, eqb-true, eqb-false}
 use Rattle.ranges.specs.Numbers.{pick, least}
-use Rattle.ranges.specs.Refusals.{none, refused, refusedAt, orElse, stands, LowAboveHigh, BadTableLength}
+use Rattle.ranges.specs.Refusals.{none, refused, refusedAt, stands, LowAboveHigh, BadTableLength}
 use Rattle.ranges.specs.declared.refusal.Refusal.{Refusal}
-use Rattle.ranges.specs.declared.refusal.Count.{Count}
 use Rattle.ranges.specs.declared.refusal.Count.the-variants.{Is, Refused}
 use Rattle.ranges.proofs.Numbers.{true-not-false}
 use Rattle.lists.specs.Rules.{Rules, fieldsOf, rulesIn, isVoid, Shaped}
 use Rattle.lists.specs.Faults.{shapeFault, badRule, endsFault, listFault}
 use Rattle.lists.proofs.Faults.{shape-few}
-use Rattle.sorting.specs.FirstFit.{firstFit, parts, Choice, Chosen}
-use Rattle.sorting.specs.Layout.{TableFor, tableLength}
-use Rattle.sorting.specs.Opening.{tableFault}
+use Rattle.sorting.specs.FirstFit.{firstFit, Chosen}
+use Rattle.sorting.specs.Layout.{tableLength}
 use Rattle.sorting.specs.Table.{tableOf, builtTable}
-use Rattle.sorting.specs.Asked.{RunFor, Dealt, Laying, Buildable}
-use Rattle.sorting.specs.Build.{buildFault, builtParts, buildOf, tableAfter, Built}
+use Rattle.sorting.specs.Asked.{RunFor, Laying, Buildable}
+use Rattle.sorting.specs.Build.{buildFault, builtParts, Built}
 use Rattle.sorting.proofs.Sound.{list-shaped}
 use Rattle.sorting.proofs.FirstFits.{first-fit-length, first-fit-choice}
 

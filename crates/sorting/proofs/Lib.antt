@@ -10,6 +10,7 @@
 -- Building: which of 1 to 5 a list and a table meet, and what is written where they meet none.
 -- Auditing: two runs with the same numbers, and the answer of an audit.
 -- Reporting: the report on a partition, as the code works it out.
+-- Reports: what a report says of the table of any choice of partitions.
 -- Answers: what an audit's and a report's answers say tells them apart.
 -- Theorems: what a reader may rely on.
 -- Determined: every contract allows one result alone.
@@ -53,5 +54,6 @@ pub mod FirstFits
 pub mod Built
 pub mod Cases
 pub mod Answers
+pub mod Reports
 pub mod Theorems
 pub mod Determined

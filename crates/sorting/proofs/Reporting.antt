@@ -6,7 +6,7 @@
 --     fault-starts, fault-rules, fault-fine      6 for a partition
 --     report-open, report-7, report-part, Reported, reported      the refusals of a report, and what is not refused
 --     by-open, by-opened, by-7, by-part, by-reported, by-answer   the same, as the code works it out
---     smallest-le, smallest-at                   the smallest of several numbers
+--     smallest-le, smallest-at, Smallest, reported-least      the smallest of several numbers, and of a partition's rules
 --     report-none, seven-how, part-ends, rules-below      what is not refused, and 7
 --     part-within                                what a partition is that is not broken by its starts
 -- Assumes nothing.
@@ -18,22 +18,21 @@ use mathlib.Core.Logic.{_⊎_, inl, inr, ⊎-elim}
 use native.Mathlib.Omega.{arith}
 use native.Mathlib.Nat.{eq-or-lt-of-le, le-of-suc-le-suc}
 use native.Mathlib.Numerals.{add-one}
-use lib.ListN.{length, getD}
+use lib.ListN.{length}
 use lib.Dec.{ltb, leb, eqb}
 use borrow.Author.Tests.{lt-ltb, le-ltb, le-leb, eq-eqb, ne-eqb, ltb-true, ltb-false, leb-true, eqb-true}
 use Rattle.ranges.specs.Numbers.{pick, _and_, all}
 use Rattle.ranges.specs.Refusals.{none, refused, orElse, stands, BadTableLength, BrokenTable, NoSuchPartition}
 use Rattle.ranges.specs.declared.refusal.Refusal.{Refusal}
 use Rattle.ranges.proofs.Numbers.{true-not-false, and-left, and-right, all-yes, all-at, all-no}
-use Rattle.lists.specs.Rules.{Rules, fieldsOf, rulesIn, Shaped}
+use Rattle.lists.specs.Rules.{Rules, fieldsOf, rulesIn}
 use Rattle.lists.specs.Faults.{shapeFault}
 use Rattle.lists.proofs.Faults.{shape-few, shape-stands}
-use Rattle.sorting.specs.Layout.{View, TableFor, tableLength, orderAt, startAt}
+use Rattle.sorting.specs.Layout.{View, tableLength, orderAt, startAt}
 use Rattle.sorting.specs.Opening.{opening, partStands, viewOf, openFault}
 use Rattle.sorting.specs.Asked.{PartOf, PartWithin}
 use Rattle.sorting.specs.Report.{smallest, placesIn, sizeOf, rulesStand, leastRule, partFault, reportFault, reportOf}
-use Rattle.sorting.specs.declared.report.Part.{Part}
-use Rattle.sorting.specs.declared.report.Part.the-variants.{Is, Refused}
+use Rattle.sorting.specs.declared.report.Part.the-variants.{Is}
 use Rattle.sorting.proofs.Offsets.{order-inside, start-inside}
 use Rattle.sorting.proofs.Opening.{Opened, opened, open-stands}
 
@@ -303,3 +302,29 @@ module _ {R : Rules} {T : List ℕ} {q : ℕ} (h : Reported R T q) where
   rules-below k lt =
       ltb-true (viewOf R T .order (viewOf R T .start q + k)) (rulesIn R)
       (all-at (λ k. ltb (viewOf R T .order (viewOf R T .start q + k)) (rulesIn R)) (sizeOf (viewOf R T) q) (h .rules) k lt)
+
+-- the smallest rule number of partition q: that of one of its places, and of none of them smaller
+pub record Smallest (R : Rules) (T : List ℕ) (q least : ℕ) : Type 0 where
+  pub at : (p : ℕ) × (viewOf R T .start q ≤ p) × (p < viewOf R T .start (suc q)) × (viewOf R T .order p ≡ least)
+  pub least-of : (p : ℕ) → viewOf R T .start q ≤ p → p < viewOf R T .start (suc q) → least ≤ viewOf R T .order p
+
+pub reported-least : {R : Rules} {T : List ℕ} {q : ℕ} → Reported R T q → Smallest R T q (leastRule (rulesIn R) (viewOf R T) q)
+reported-least {R} {T} {q} h =
+    let within = part-ends h in
+    let one = smallest-at g (rulesIn R) (sizeOf v q) (omega arith) (rules-below h) in
+    record {
+      at = (v .start q + one .0, omega arith, omega (arith, one .1), one .2);
+      least-of = λ p low high.
+          let here : v .start q + (p - v .start q) ≡ p = omega arith in
+          subst (λ r. leastRule (rulesIn R) v q ≤ v .order r) here (smallest-le g (rulesIn R) (sizeOf v q) (p - v .start q) (omega arith));
+    }
+  where
+    v : View
+    v = viewOf R T
+
+    g : ℕ → ℕ
+    g k = v .order (v .start q + k)
+
+pub report-answers : {R : Rules} {T : List ℕ} {q : ℕ} → Reported R T q → {size least : ℕ} → sizeOf (viewOf R T) q ≡ size
+    → leastRule (rulesIn R) (viewOf R T) q ≡ least → reportOf R T q ≡ Is size least
+report-answers {R} {T} {q} h is-size is-least = rw (report-none h, ← is-size, ← is-least)

@@ -2,7 +2,7 @@
 -- Assumes nothing.
 use native.Mathlib.Omega.{arith}
 use borrow.Author.Needs.{needs}
-use Prim.Native.Nat.{ℕ, _≤_, _<_, _-_, _+_}
+use Prim.Native.Nat.{_≤_, _-_, _+_}
 use mathlib.Core.Path.{_≡_}
 use Rattle.sorting.specs.Report.{placesIn, smallest}
 use Rattle.sorting.proofs.Reporting.{start-here, place-few, place-in, least-none, least-more, least-all}

@@ -3,7 +3,7 @@
 use native.Mathlib.Omega.{arith}
 use borrow.Author.Needs.{needs}
 use Prim.Native.Nat.{ℕ, _≤_, _<_, _-_, _+_}
-use mathlib.Core.Path.{sym, subst}
+use mathlib.Core.Path.{sym}
 use borrow.Author.Count.{below-none, below-more}
 use Rattle.sorting.specs.Report.{placesIn}
 use Rattle.sorting.proofs.Reporting.{start-here, place-few, place-in, rules-not, rules-all}
