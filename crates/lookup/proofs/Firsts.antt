@@ -29,7 +29,8 @@ use Rattle.lookup.specs.Lookup.{visitOf, better, answerOf, lookupFrom, s
 use Rattle.lookup.specs.declared.walk.Found.{Found}
 use Rattle.lookup.specs.declared.walk.Found.the-variants.{Hit, Miss}
 use Rattle.lookup.specs.declared.walk.Walked.the-variants.{Ran}
-use Rattle.lookup.proofs.Answers.{Matches, visit-fits, sooner-fits}
+use Rattle.lookup.proofs.Answers.{visit-fits, sooner-fits}
+use Rattle.lookup.proofs.Named.{Matches}
 use Rattle.lookup.proofs.Groups.{Finds, starts-within, held-first, walk-finds}
 use Rattle.lookup.proofs.Visits.{visit-walks, from-none, from-on}
 use Rattle.lookup.proofs.Lookups.{lookup-searches}

@@ -3,6 +3,8 @@
 -- Steps: what one test leaves.
 -- Arrivals: the end of a walk at field d.
 -- Walks: the turns of a walk, and what holds of every walk.
+-- Named: a rule that a walk names fits.
+-- Packing: a walk's answer as one number, and back.
 -- Counts: how many tests a walk makes.
 -- Visits: a partition, and all of them in order.
 -- Lookups: the refusals of the opening, and the search of a table that opens.
@@ -20,6 +22,8 @@ pub mod Within
 pub mod Steps
 pub mod Arrivals
 pub mod Walks
+pub mod Named
+pub mod Packing
 pub mod Counts
 pub mod Visits
 pub mod Lookups

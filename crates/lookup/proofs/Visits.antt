@@ -18,6 +18,7 @@ use Rattle.ranges.proofs.Numbers.{never}
 use Rattle.lists.specs.Rules.{Rules, fieldsOf, rulesIn}
 use Rattle.sorting.specs.Layout.{View}
 use Rattle.lookup.specs.Walk.{walkFrom}
+use Rattle.lookup.specs.Packed.{packed, unpacked}
 use Rattle.lookup.specs.Lookup.{visitOf, better, answerOf, lookupFrom}
 use Rattle.lookup.specs.declared.walk.Found.{Found}
 use Rattle.lookup.specs.declared.walk.Found.the-variants.{Hit, Miss}
@@ -25,6 +26,8 @@ use Rattle.lookup.specs.declared.walk.Walked.{Walked}
 use Rattle.lookup.specs.declared.walk.Walked.the-variants.{Ran, Broken}
 use Rattle.lookup.specs.declared.lookup.Looked.the-variants.{Rule, Nothing, Refused}
 use Rattle.lookup.proofs.Counts.{walk-few-18}
+use Rattle.lookup.proofs.Named.{walk-fits}
+use Rattle.lookup.proofs.Packing.{Small, packed-back}
 
 -- ---- a partition
 module _ (R : Rules) (v : View) (h : List ℕ) (q : ℕ) where
@@ -84,10 +87,22 @@ module _ (R : Rules) (v : View) (h : List ℕ) (n q s e : ℕ) (is-n : n ≡ rul
     pub by-past : n < e → visitOf R v h q ≡ Broken
     by-past past = visit-past R v h q some-places (omega (arith, next))
 
-    pub by-walk : e ≤ n → (w : Walked) → ((k : ℕ) → (e - s) + (fieldsOf R - 0) < k → w ≡ walkFrom R v h k s e 0 0) → w ≡ visitOf R v h q
-    by-walk le w walked =
+    -- c is what the walk answered, as one number, and w what it stands for
+    pub by-walk : e ≤ n → n ≤ 1024 → fieldsOf R ≤ 8 → (c : ℕ) → ((k : ℕ) → (e - s) + (fieldsOf R - 0) < k → c ≡ packed (walkFrom R v h k s e 0 0))
+        → (w : Walked) → w ≡ unpacked c → w ≡ visitOf R v h q
+    by-walk le few-rules few-fields c walked w is-w =
         let within : v .start (suc q) ≤ rulesIn R = omega (arith, next) in
-        walked (suc (rulesIn R + fieldsOf R)) (omega arith)
+        let k = suc (rulesIn R + fieldsOf R) in
+        let few : e ≤ 1024 = omega arith in
+        let small : Small (walkFrom R v h k s e 0 0) =
+        record {
+          few-tests = λ x u is. let le-18 : u ≤ 18 = walk-few-18 R v h k s e some few few-fields x u is in omega arith;
+          few-rules = λ i u is. let lt : i < rulesIn R = walk-fits R v h k s e 0 0 i u is .rule in omega arith;
+        }
+        in
+        is-w
+        ∙ ap unpacked (walked k (omega arith))
+        ∙ packed-back (walkFrom R v h k s e 0 0) small
         ∙ rw (is-s, next) (sym (visit-walks R v h q some-places within))
 
 -- ---- all partitions in order

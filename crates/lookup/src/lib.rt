@@ -25,7 +25,8 @@
 // to be left, and its rule is held against the header in all d fields once more. Whatever fails refuses the whole call with
 // 6. So a rule that is returned fits, whatever the table.
 //
-// What it costs. `walk` stays a call a test. It is passed its two slices by reference, since a slice would be copied at each
-// call, and answers in 16 bits a number, so that the answer is one word.
+// What it costs. As much as a loop: `walk` is passed its two slices by reference and answers with one number, so that no call of
+// itself is handed a local of the caller, and the compiler makes the recursion a loop. `visit` unpacks the number into the
+// partition's answer, hit, miss or broken.
 pub mod lookup;
 pub mod walk;

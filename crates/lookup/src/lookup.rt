@@ -1,6 +1,7 @@
 // The lookup of a header in a table.
 use crate::walk::Found;
 use crate::walk::Walked;
+use crate::walk::unpack;
 use crate::walk::walk;
 use lists::shape::Shape;
 use lists::shape::rules_in;
@@ -48,7 +49,7 @@ fn visit(shape: Shape, n: u16, list: &[u32], table: &[u16], header: &[u32; 8], q
     if n < e {
         return Walked::Broken;
     }
-    walk(shape, n, &list, &table, header, s, e, 0, 0)
+    unpack(walk(shape, n, &list, &table, header, s, e, 0, 0))
 }
 
 // Visits the partitions 0 to b - 1 in order: gives the smallest candidate, or none, with the sum of the tests; or refuses

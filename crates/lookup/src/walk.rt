@@ -15,6 +15,7 @@ ghost use Rattle.lists.specs.FirstMatch.{sideAt};
 ghost use Rattle.sorting.specs.Layout.{orderAt, fromAt, toAt, view};
 ghost use Rattle.lookup.specs.Lent.{Ready, Group, Going};
 ghost use Rattle.lookup.specs.Walk.{runStands, stepOf, arrivedOf, walkFrom};
+ghost use Rattle.lookup.specs.Packed.{packed, unpacked};
 
 // What a walk finds in a partition.
 pub enum Found {
@@ -149,8 +150,42 @@ fn arrive(
     Walked::Ran(Found::Hit(rule), tests)
 }
 
+// What stands for a broken table, and for a miss, where an answer's rule number would stand.
+const NO_ANSWER: u32 = 65535;
+
+const NO_RULE: u32 = 65534;
+
+// Gives a walk's answer as one number: 65536 times the rule number, or what stands for it, and the tests. A number comes
+// back in a register, so that the walk's call of itself costs no more than a turn of a loop.
+fn pack(walked: Walked) -> u32
+    ensures { λ r. ⌜ r ≡ packed walked ⌝ }
+{
+    let Walked::Ran(found, tests) = walked else {
+        return NO_ANSWER * 65536;
+    };
+    let Found::Hit(rule) = found else {
+        return NO_RULE * 65536 + tests as u32;
+    };
+    rule as u32 * 65536 + tests as u32
+}
+
+// Gives the answer that a number stands for.
+pub(crate) fn unpack(code: u32) -> Walked
+    ensures { λ r. ⌜ r ≡ unpacked code ⌝ }
+{
+    let what = code / 65536;
+    let tests = (code % 65536) as u16;
+    if what == NO_ANSWER {
+        return Walked::Broken;
+    }
+    if what == NO_RULE {
+        return Walked::Ran(Found::Miss, tests);
+    }
+    Walked::Ran(Found::Hit(what as u16), tests)
+}
+
 // Walks on from places s to before e at field f, with some tests made: gives what it finds and all tests made, or a broken
-// table. Calls itself on a smaller group or the next field; group size plus remaining fields falls at each call.
+// table, as one number. Calls itself on a smaller group or the next field; group size plus remaining fields falls at each call.
 pub(crate) fn walk(
     shape: Shape,
     n: u16,
@@ -161,20 +196,20 @@ pub(crate) fn walk(
     e: u16,
     f: u16,
     tests: u16,
-) -> Walked
+) -> u32
     requires { ⌜ Ready (listed shape (now (now list))) n (now (now table)) ⌝ }
     requires { ⌜ Going n (shape .d) s e f tests ⌝ }
-    ensures { λ r. ⌜ ((k : ℕ) → (e - s) + (shape .d - f) < k → r ≡ walkFrom (listed shape (now (now (list .entry)))) (view n (shape .d) (now (now (table .entry)))) (now (header .entry)) k s e f tests) ⌝ }
+    ensures { λ r. ⌜ ((k : ℕ) → (e - s) + (shape .d - f) < k → r ≡ packed (walkFrom (listed shape (now (now (list .entry)))) (view n (shape .d) (now (now (table .entry)))) (now (header .entry)) k s e f tests)) ⌝ }
 {
     if e <= s {
-        return Walked::Ran(Found::Miss, tests);
+        return pack(Walked::Ran(Found::Miss, tests));
     }
     if shape.d <= f as usize {
-        return arrive(shape, n, *list, *table, header, s, e, tests);
+        return pack(arrive(shape, n, *list, *table, header, s, e, tests));
     }
     let step = one_step(shape, n, *list, *table, header, s, e, f);
     let Step::On { s, e, f } = step else {
-        return Walked::Broken;
+        return pack(Walked::Broken);
     };
     walk(shape, n, list, table, header, s, e, f, tests + 1)
 }

@@ -6,7 +6,6 @@ use Prim.Native.Nat.{ℕ, _+_, _-_, _<_}
 use borrow.Author.Needs.{needs}
 use borrow.Fn.Kinds.{In}
 use borrow.Fn.PlainCycle.{Measures, is, falls, and}
-use mathlib.Core.Path.{refl}
 use native.Mathlib.Omega.{arith}
 use Rattle.lookup.proofs.Steps.{Smaller, told-smaller}
 use Rattle.lookup.proofs.Walks.{every-empty, every-arrives, every-breaks, every-on}
@@ -15,6 +14,7 @@ use Rattle.lookup.proofs.walk.walk.Kinds as walk-kinds
 use Rattle.lookup.proofs.walk.+walk.Lts-walk as walk-lts
 use Rattle.lookup.proofs.walk.arrive.Reads as arrive-reads
 use Rattle.lookup.proofs.walk.one_step.Reads as one-step-reads
+use Rattle.lookup.proofs.walk.pack.Reads as pack-reads
 use Rattle.lookup.proofs.walk.+walk.{statement}
 use Rattle.lookup.proofs.walk.+walk.Tie.{close}
 
@@ -30,11 +30,14 @@ walk-below t = and 5 walk-kinds.ps (falls 5 walk-kinds.ps _<_ μ-walk t) walk.Pr
 
 -- what the callees ask and tell; a call of itself is below the measure t
 abbrev claims : ℕ → walk-lts.Claims
-claims t = (arrive-reads.Asked, arrive-reads.Learnt, one-step-reads.Asked, one-step-reads.Learnt, walk-below t, walk.Post)
+claims t = (pack-reads.Asked, pack-reads.Learnt, arrive-reads.Asked, arrive-reads.Learnt, one-step-reads.Asked, one-step-reads.Learnt, walk-below t, walk.Post)
+
+walk-pack-requires : (t : ℕ) → walk-lts.Need-pack-requires (claims t) (walk-at t) walk.Post
+walk-pack-requires t c κs = search needs
 
 -- an empty group
 walk-returns : (t : ℕ) → walk-lts.Need-returns (claims t) (walk-at t) walk.Post
-walk-returns t c = every-empty _ _ _ _ _ _ _ _ _ (c .if1 .taken) refl
+walk-returns t c = every-empty _ _ _ _ _ _ _ _ _ (c .before .if1 .taken) (c .pack .ensures)
 
 walk-arrive-requires : (t : ℕ) → walk-lts.Need-arrive-requires (claims t) (walk-at t) walk.Post
 walk-arrive-requires t c κs =
@@ -42,11 +45,15 @@ walk-arrive-requires t c κs =
     let st = full .before in
     (st .pre .1 .0, (full .if1 .left, st .pre .1 .1 .in-table))
 
+walk-pack-requires-2 : (t : ℕ) → walk-lts.Need-pack-requires-2 (claims t) (walk-at t) walk.Post
+walk-pack-requires-2 t c κs = search needs
+
 -- field d
 walk-returns-2 : (t : ℕ) → walk-lts.Need-returns-2 (claims t) (walk-at t) walk.Post
 walk-returns-2 t c =
-    let row = c .before .before .before in
-    every-arrives _ _ _ _ _ _ _ _ _ (row .before .before .if1 .left) (row .if2 .taken) (c .arrive .ensures)
+    let end = c .before in
+    let row = end .before .before .before in
+    every-arrives _ _ _ _ _ _ _ _ _ (row .before .before .if1 .left) (row .if2 .taken) _ (end .arrive .ensures) (c .pack2 .ensures)
 
 walk-one-step-requires : (t : ℕ) → walk-lts.Need-one-step-requires (claims t) (walk-at t) walk.Post
 walk-one-step-requires t c κs =
@@ -61,12 +68,16 @@ walk-enum-known-step t c = search needs
 walk-enum-told : (t : ℕ) → walk-lts.Need-enum-told (claims t) (walk-at t) walk.Post
 walk-enum-told t c = search needs
 
+walk-pack-requires-3 : (t : ℕ) → walk-lts.Need-pack-requires-3 (claims t) (walk-at t) walk.Post
+walk-pack-requires-3 t c κs = search needs
+
 -- a broken step
 walk-returns-3 : (t : ℕ) → walk-lts.Need-returns-3 (claims t) (walk-at t) walk.Post
 walk-returns-3 t c =
-    let step = c .before .before in
+    let told = c .before in
+    let step = told .before .before in
     let row = step .before .before .before in
-    every-breaks _ _ _ _ _ _ _ _ _ (row .before .before .if1 .left) (row .if2 .left) _ (step .one-step .ensures) (c .enum-told .given .1) refl
+    every-breaks _ _ _ _ _ _ _ _ _ (row .before .before .if1 .left) (row .if2 .left) _ (step .one-step .ensures) (told .enum-told .given .1) (c .pack3 .ensures)
 
 walk-add-walk : (t : ℕ) → walk-lts.Need-add-walk (claims t) (walk-at t) walk.Post
 walk-add-walk t c = search needs
@@ -107,12 +118,15 @@ pub +walk-spec : {M : Type 1} → statement M
 +walk-spec =
     close μ-walk λ t.
     walk-lts.spec (claims t) (walk-at t) walk.Post
+    (walk-pack-requires t)
     (walk-returns t)
     (walk-arrive-requires t)
+    (walk-pack-requires-2 t)
     (walk-returns-2 t)
     (walk-one-step-requires t)
     (walk-enum-known-step t)
     (walk-enum-told t)
+    (walk-pack-requires-3 t)
     (walk-returns-3 t)
     (walk-add-walk t)
     (walk-walk-requires t)
