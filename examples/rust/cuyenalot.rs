@@ -33,14 +33,57 @@ mod c {
     #[link(name = "interface", kind = "static")]
     extern "C" {
         pub fn cuy_check(d: usize, list: *const u32, list_length: usize, answer: &mut [u64; 4]) -> u32;
-        pub fn cuy_plain_scan(d: usize, list: *const u32, list_length: usize, header: &[u32; 8], answer: &mut [u64; 5]) -> u32;
+        pub fn cuy_plain_scan(
+            d: usize,
+            list: *const u32,
+            list_length: usize,
+            header: &[u32; 8],
+            answer: &mut [u64; 5],
+        ) -> u32;
         pub fn cuy_independence(d: usize, list: *const u32, list_length: usize, answer: &mut [u64; 6]) -> u32;
-        pub fn cuy_build(d: usize, list: *const u32, list_length: usize, table: *mut u16, table_length: usize, answer: &mut [u64; 4]) -> u32;
-        pub fn cuy_lookup(d: usize, list: *const u32, list_length: usize, table: *const u16, table_length: usize, header: &[u32; 8], answer: &mut [u64; 6]) -> u32;
-        pub fn cuy_audit(d: usize, list: *const u32, list_length: usize, table: *const u16, table_length: usize, answer: &mut [u64; 4]) -> u32;
-        pub fn cuy_report(d: usize, list: *const u32, list_length: usize, table: *const u16, table_length: usize, partition: usize, answer: &mut [u64; 5]) -> u32;
+        pub fn cuy_build(
+            d: usize,
+            list: *const u32,
+            list_length: usize,
+            table: *mut u16,
+            table_length: usize,
+            answer: &mut [u64; 4],
+        ) -> u32;
+        pub fn cuy_lookup(
+            d: usize,
+            list: *const u32,
+            list_length: usize,
+            table: *const u16,
+            table_length: usize,
+            header: &[u32; 8],
+            answer: &mut [u64; 6],
+        ) -> u32;
+        pub fn cuy_audit(
+            d: usize,
+            list: *const u32,
+            list_length: usize,
+            table: *const u16,
+            table_length: usize,
+            answer: &mut [u64; 4],
+        ) -> u32;
+        pub fn cuy_report(
+            d: usize,
+            list: *const u32,
+            list_length: usize,
+            table: *const u16,
+            table_length: usize,
+            partition: usize,
+            answer: &mut [u64; 5],
+        ) -> u32;
         pub fn cuy_prefix_to_range(width: u32, value: u32, length: u32, answer: &mut [u64; 5]) -> u32;
-        pub fn cuy_range_to_prefixes(width: u32, low: u32, high: u32, run: *mut u32, run_length: usize, answer: &mut [u64; 4]) -> u32;
+        pub fn cuy_range_to_prefixes(
+            width: u32,
+            low: u32,
+            high: u32,
+            run: *mut u32,
+            run_length: usize,
+            answer: &mut [u64; 4],
+        ) -> u32;
     }
 }
 
@@ -84,7 +127,8 @@ pub fn build(d: usize, list: &[u32], table: &mut [u16]) -> Result<usize, Refusal
 /// Looks a header up in a table: the rule, or none, and the range tests.
 pub fn lookup(d: usize, list: &[u32], table: &[u16], header: &Header) -> Result<Looked, Refusal> {
     let mut answer = [0; 6];
-    let number = unsafe { c::cuy_lookup(d, list.as_ptr(), list.len(), table.as_ptr(), table.len(), header, &mut answer) };
+    let number =
+        unsafe { c::cuy_lookup(d, list.as_ptr(), list.len(), table.as_ptr(), table.len(), header, &mut answer) };
     told(number, &answer)?;
     Ok(Looked { rule: match_in(&answer), tests: answer[5] as usize })
 }
@@ -100,7 +144,8 @@ pub fn audit(d: usize, list: &[u32], table: &[u16]) -> Result<bool, Refusal> {
 /// Reports on a partition of a table.
 pub fn report(d: usize, list: &[u32], table: &[u16], partition: usize) -> Result<Part, Refusal> {
     let mut answer = [0; 5];
-    let number = unsafe { c::cuy_report(d, list.as_ptr(), list.len(), table.as_ptr(), table.len(), partition, &mut answer) };
+    let number =
+        unsafe { c::cuy_report(d, list.as_ptr(), list.len(), table.as_ptr(), table.len(), partition, &mut answer) };
     told(number, &answer)?;
     Ok(Part { size: answer[3] as usize, least: answer[4] as usize })
 }
