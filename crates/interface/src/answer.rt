@@ -4,10 +4,12 @@ use lists::scan::Match;
 use lookup::lookup::Looked;
 use ranges::prefix::Bounds;
 use ranges::refusal::Count;
+use sorting::audit::Verdict;
 ghost use Rattle.ranges.specs.Refusals.{saysCount};
 ghost use Rattle.ranges.specs.Prefixes.{saysBounds};
 ghost use Rattle.lists.specs.Scan.{saysMatch};
 ghost use Rattle.lists.specs.Independence.{saysPair};
+ghost use Rattle.sorting.specs.Build.{saysVerdict};
 ghost use Rattle.interface.specs.Answers.{Told, saysInPlace};
 
 // Writes what is counted, and gives the refusal number.
@@ -97,6 +99,26 @@ pub(crate) fn put_looked(looked: Looked, answer: &mut [u64; 6]) -> u32
         }
         Looked::Refused(x) => {
             *answer = [x.number as u64, x.at as u64, x.then as u64, 0, 0, 0];
+            x.number
+        }
+    }
+}
+
+// Writes 1 for yes, 0 for no, and gives the refusal number.
+pub(crate) fn put_verdict(verdict: Verdict, answer: &mut [u64; 4]) -> u32
+    ensures { λ r. ⌜ Told 1 (saysVerdict verdict) r (now (answer .exit)) ⌝ }
+{
+    match verdict {
+        Verdict::Yes => {
+            *answer = [0, 0, 0, 1];
+            0
+        }
+        Verdict::No => {
+            *answer = [0, 0, 0, 0];
+            0
+        }
+        Verdict::Refused(x) => {
+            *answer = [x.number as u64, x.at as u64, x.then as u64, 0];
             x.number
         }
     }

@@ -1,9 +1,26 @@
-// Tables: lookup.
+// Tables: build, lookup, audit, report.
+use crate::answer::put_count;
 use crate::answer::put_looked;
+use crate::answer::put_verdict;
 use lists::shape::Shape;
 use lookup::lookup::lookup;
+use sorting::audit::audit;
+use sorting::build::build;
+ghost use mathlib.Core.Path.{_≡_};
+ghost use Rattle.ranges.specs.Refusals.{saysCount};
+ghost use Rattle.sorting.specs.Build.{buildOf, tableAfter, auditOf, saysVerdict};
 ghost use Rattle.lookup.specs.Lookup.{lookupOf};
 ghost use Rattle.interface.specs.Answers.{Told, rulesOf, saysInPlace};
+
+// Builds the table of a list: writes every number of it and answers b, the number of partitions. A refusal leaves the
+// table as lent.
+#[no_mangle]
+pub extern "C" fn cuy_build(d: usize, list: &[u32], table: &mut [u16], answer: &mut [u64; 4]) -> u32
+    ensures { λ r. ⌜ Told 1 (saysCount (buildOf (rulesOf d (now (list .entry))) (now (table .entry)))) r (now (answer .exit)) ⌝ }
+    ensures { λ _. ⌜ now (table .exit) ≡ tableAfter (rulesOf d (now (list .entry))) (now (table .entry)) ⌝ }
+{
+    put_count(build(Shape { d }, list, table), answer)
+}
 
 // Looks a header up in a table: answers 1 and the first match, or 0 and 0 where no rule fits, and the number of tests.
 #[no_mangle]
@@ -17,4 +34,12 @@ pub extern "C" fn cuy_lookup(
     ensures { λ r. ⌜ Told 3 (saysInPlace (lookupOf (rulesOf d (now (list .entry))) (now (table .entry)) (now (header .entry)))) r (now (answer .exit)) ⌝ }
 {
     put_looked(lookup(Shape { d }, list, table, *header), answer)
+}
+
+// Audits a table: answers 1 where every number of it is what the build would write for this list, else 0.
+#[no_mangle]
+pub extern "C" fn cuy_audit(d: usize, list: &[u32], table: &[u16], answer: &mut [u64; 4]) -> u32
+    ensures { λ r. ⌜ Told 1 (saysVerdict (auditOf (rulesOf d (now (list .entry))) (now (table .entry)))) r (now (answer .exit)) ⌝ }
+{
+    put_verdict(audit(Shape { d }, list, table), answer)
 }

@@ -3,12 +3,13 @@
 --     shape-1, shape-1-many, shape-2, shape-3, shape-stands      1, 2, 3, and none of them
 --     counted-2, counted-3, counted-stands                       the same, of n as worked out by a callee
 --     shaped                                                     a list that meets none of 1, 2, 3
+--     shape-few                                                  the number of a shape's refusal is at most 3
 --     shape-of, ends-of                                          a list that meets none of 1 to 4 meets none of 1, 2, 3, and not 4
 --     by-refused, by-stands, by-shaped, by-listed                the same, of a refusal as worked out by a callee
 -- Assumes nothing.
-use Prim.Native.Nat.{ℕ, _*_, _%_, _/_, _≤_, _<_}
+use Prim.Native.Nat.{ℕ, _*_, _%_, _≤_, _<_}
 use mathlib.Core.Bool.{Bool, true, false, not}
-use mathlib.Core.Path.{_≡_, refl, sym, ap, _∙_}
+use mathlib.Core.Path.{_≡_, refl, sym}
 use native.Mathlib.Omega.{arith}
 use lib.ListN.{length}
 use lib.Dec.{ltb, eqb}
@@ -82,6 +83,17 @@ shaped R = go (ltb (fieldsOf R) 1) (ltb 8 (fieldsOf R)) (eqb (length (R .numbers
           whole = whole-length R (eqb-true (length (R .numbers) % (fieldsOf R * 2)) 0 r);
           few-rules = ltb-false 1024 (rulesIn R) s;
         }
+
+pub shape-few : (R : Rules) → shapeFault R .number ≤ 3
+unfolding shapeFault
+shape-few R = go (ltb (fieldsOf R) 1) (ltb 8 (fieldsOf R)) (eqb (length (R .numbers) % (fieldsOf R * 2)) 0) (ltb 1024 (rulesIn R))
+  where
+    go : (a b e g : Bool) → (pick (a or b) (refused BadFields) (pick (not e) (refused BadLength) (pick g (refused TooManyRules) none))) .number ≤ 3
+    go true b e g = omega arith
+    go false true e g = omega arith
+    go false false false g = omega arith
+    go false false true true = omega arith
+    go false false true false = omega arith
 
 -- ---- 1 to 4
 -- of two refusals in a row of which none refuses: neither does

@@ -5,9 +5,15 @@
 -- Voids: of the refusal 4, low > high in a field, in a rule, in a list.
 -- Fitting: of what fits a header.
 -- Meeting: of rules that one header can fit.
+-- Answers: what an answer says tells it apart from every other.
+-- Determined: any two results that a public contract allows are equal.
+-- Theorems: the statements on check, scan and order independence.
 pub mod Search
 pub mod Rules
 pub mod Faults
 pub mod Voids
 pub mod Fitting
 pub mod Meeting
+pub mod Answers
+pub mod Determined
+pub mod Theorems

@@ -1,6 +1,5 @@
 -- 01, Other answers: a check answers n, the number of rules, unless one of the refusals 1 to 4 applies.
 -- Assumes nothing: these are definitions.
-use Prim.Native.Nat.{ℕ}
 use Rattle.ranges.specs.Refusals.{countUnless}
 use Rattle.ranges.specs.declared.refusal.Count.{Count}
 use Rattle.lists.specs.Rules.{Rules, rulesIn}

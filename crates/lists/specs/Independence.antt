@@ -5,11 +5,10 @@
 -- Assumes nothing: these are definitions.
 use Prim.Native.Nat.{ℕ}
 use mathlib.Core.Bool.{Bool}
-use mathlib.Core.List.{List, [], _∷_}
+use mathlib.Core.List.{[], _∷_}
 use lib.Dec.{ltb}
 use Rattle.ranges.specs.Numbers.{pick, _and_, all, least}
 use Rattle.ranges.specs.Refusals.{none, stands, Said, saidOf}
-use Rattle.ranges.specs.declared.refusal.Refusal.{Refusal}
 use Rattle.lists.specs.Rules.{Rules, fieldsOf, rulesIn, lowOf, endsAt}
 use Rattle.lists.specs.Faults.{listFault}
 use Rattle.lists.specs.declared.independence.Pair.{Pair}

@@ -56,7 +56,7 @@ pub record Shaped (R : Rules) : Type 0 where
   pub whole : length (R .numbers) ≡ rulesIn R * fieldsOf R * 2
   pub few-rules : rulesIn R ≤ 1024
 
--- rule i stands in the list up to its last field, of at most eight
+-- what private functions ask of their callers: rule i stands in the list up to its last field, of at most eight
 pub record HasRule (R : Rules) (i : ℕ) : Type 0 where
   pub few-fields : fieldsOf R ≤ 8
   pub within : cellOf (fieldsOf R) i (fieldsOf R) ≤ length (R .numbers)

@@ -6,7 +6,6 @@ use mathlib.Core.List.{List, [], _∷_}
 use lib.Dec.{ltb}
 use Rattle.ranges.specs.Numbers.{pick, _and_}
 use Rattle.ranges.specs.Refusals.{none, stands, Said, saidOf}
-use Rattle.ranges.specs.declared.refusal.Refusal.{Refusal}
 use Rattle.lists.specs.Rules.{Rules, rulesIn}
 use Rattle.lists.specs.Faults.{badFields, listFault}
 use Rattle.lists.specs.FirstMatch.{fits, firstMatch}

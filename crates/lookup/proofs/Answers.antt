@@ -59,7 +59,7 @@ module _ (R : Rules) (v : View) (h : List ℕ) where
   visit-fits q i u is = walk-fits _ _ _ _ _ i u (visited-walks R v h q (Hit i) u is .walks)
 
   -- ---- all partitions: the smallest candidate so far, if there is one, matches
-  sooner-fits : (best : ℕ) (x : Found) → (best < rulesIn R → Matches R h best) → ((i : ℕ) → x ≡ Hit i → Matches R h i)
+  pub sooner-fits : (best : ℕ) (x : Found) → (best < rulesIn R → Matches R h best) → ((i : ℕ) → x ≡ Hit i → Matches R h i)
       → better best x < rulesIn R → Matches R h (better best x)
   sooner-fits best Miss kept new lt = kept lt
   sooner-fits best (Hit i) kept new lt = go (ltb i best) refl

@@ -1,4 +1,4 @@
--- 01, A small bench list: the marked cases, as one table of rows and one statement about the definitions.
+-- 01, A small bench list: the marked cases B1 to B12, as one table of rows and one statement about the definitions.
 -- A row has its mark, what a definition gives, and what 01 writes; both as numbers. Of a lookup these are what the answer says in the
 -- paper's words (`saysLooked`): the refusal's number and place, then 1, the rule and the tests, or 0 and the tests.
 -- Assumes nothing.
@@ -9,6 +9,8 @@ use lib.Dec.{T, eqb, ltb, leb}
 use Rattle.ranges.specs.Numbers.{pick, _and_, all, count, least, greatest, tab}
 use Rattle.ranges.specs.Refusals.{Said}
 use Rattle.ranges.specs.Sides.{endOf, sideOf}
+use Rattle.ranges.specs.Prefixes.{prefixFault, boundsOf, saysBounds}
+use Rattle.ranges.specs.Blocks.{blockFits, blockOf, prefixesFrom, prefixesOf, flat}
 use Rattle.lists.specs.Rules.{rulesIn, cellOf, lowOf, highOf}
 use Rattle.lists.specs.FirstMatch.{fits}
 use Rattle.lists.specs.Faults.{shapeFault}
@@ -69,8 +71,12 @@ cases =
     ∷ row 8 (asked 7 1000) (nothing 6)
     ∷ row 9 (builtTable empty) emptyTable
     ∷ row 9 (numbers (saysLooked (lookupOf empty emptyTable (4294967295 ∷ 0 ∷ 0 ∷ 0 ∷ 0 ∷ 0 ∷ 0 ∷ 0 ∷ [])))) (nothing 0)
+    ∷ row 10 (flat (prefixesOf 5 16 23)) (16 ∷ 2 ∷ [])
+    ∷ row 11 (flat (prefixesOf 5 1 30)) (1 ∷ 5 ∷ 2 ∷ 4 ∷ 4 ∷ 3 ∷ 8 ∷ 2 ∷ 16 ∷ 2 ∷ 24 ∷ 3 ∷ 28 ∷ 4 ∷ 30 ∷ 5 ∷ [])
+    ∷ row 12 (flat (prefixesOf 32 0 4294967295)) (0 ∷ 0 ∷ [])
+    ∷ row 12 (numbers (saysBounds (boundsOf 32 0 0))) (0 ∷ 0 ∷ 0 ∷ 0 ∷ 4294967295 ∷ [])
     ∷ []
 
 pub cases-hold : T (hold cases)
-unfolding cases all count least greatest tab endOf sideOf rulesIn cellOf lowOf highOf fits shapeFault standingOf compare fitOf firstFit parts tableLength orderAt startAt fromAt toAt placeOf ruleAt startOf runFrom runTo tableOf opening openFault runStands stepAt arrivedOf walkFrom visitOf lookupFrom lookupOf
+unfolding cases all count least greatest tab endOf sideOf rulesIn cellOf lowOf highOf fits shapeFault standingOf compare fitOf firstFit parts tableLength orderAt startAt fromAt toAt placeOf ruleAt startOf runFrom runTo tableOf opening openFault runStands stepAt arrivedOf walkFrom visitOf lookupFrom lookupOf prefixesOf prefixesFrom blockOf blockFits prefixFault
 cases-hold = tt

@@ -17,3 +17,9 @@ pub mod Cases
 pub mod Answers
 pub mod Unread
 pub mod Groups
+pub mod Firsts
+pub mod Totals
+pub mod Reached
+pub mod Refusing
+pub mod Theorems
+pub mod Determined

@@ -4,7 +4,7 @@
 use Prim.Native.Nat.{_-_}
 use mathlib.Core.Path.{_∙_}
 use native.Mathlib.Omega.{arith}
-use Rattle.lists.specs.Rules.{listed, rulesIn}
+use Rattle.lists.specs.Rules.{listed}
 use Rattle.lists.proofs.Rules.{has-rule}
 use Rattle.lists.proofs.Meeting.{Sought, sought-none, sought-more, sought-met, sought-end}
 use Rattle.lists.proofs.independence.partner_of.Statement.{statement}

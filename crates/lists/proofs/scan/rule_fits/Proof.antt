@@ -1,7 +1,6 @@
 -- `lists::scan::rule_fits` meets its contract: at each way out the tests that led there give the law of that answer.
 -- Assumes nothing.
 use borrow.Author.Needs.{needs}
-use mathlib.Core.Path.{_∙_}
 use Rattle.lists.proofs.Fitting.{in-1, in-1-many, in-none, in-rule}
 use Rattle.lists.proofs.scan.rule_fits.Statement.{statement}
 use Rattle.lists.proofs.scan.rule_fits.Tie as tie
@@ -35,7 +34,7 @@ returns-4 : tie.Need-returns-4
 returns-4 c =
     let t = c .before .before in
     let few = t .before .before in
-    c .fits-at .ensures ∙ in-rule _ _ _ _ (few .before .if1 .left) (few .if2 .left) (t .before .cell .ensures) (t .if3 .left)
+    in-rule _ _ _ _ (few .before .if1 .left) (few .if2 .left) (t .before .cell .ensures) (t .if3 .left) _ (c .fits-at .ensures)
 
 pub rule-fits-spec : {M : Type 1} → statement M
 rule-fits-spec =

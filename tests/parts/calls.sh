@@ -1,0 +1,130 @@
+# Holds `calls` to the second program, line by line. Sourced by tests/run; uses second, calls, scratch, seed, limit.
+
+# How many lines of each kind are drawn.
+declare -A drawn_lines=(
+    [prefixes]=20000 [lists]=20000 [sorting]=20000 [lookup]=40000 [protocol]=10000 [random]=40000 [large]=300
+)
+
+# Prints how many lines differ and the number of the first, parted by a blank. A line that is missing in one differs.
+differing_lines() { # WANT GOT
+    LC_ALL=C awk -v got="$2" '
+        { there = (getline line < got) > 0; if (!there || line "" != $0 "") { count++; if (!first) first = NR } }
+        END { while ((getline line < got) > 0) { NR++; count++; if (!first) first = NR } print count + 0, first + 0 }' "$1"
+}
+
+# Prints line N of a file, cut where it is long.
+line_of() { sed -n "$1p" "$2" | LC_ALL=C cut -c 1-2000; }
+
+# Prints the first line that differs, both answers, and the command that tries the line again.
+show_line() { # LABEL INPUT WANT GOT FIRST
+    local kept
+    kept=$(kept_name)
+    sed -n "$5p" "$2" >"$kept"
+    echo "calls differs: $1, line $5"
+    if [ "$(wc -c <"$kept")" -le 2000 ] && ! grep -qaP "[^\x20-\x7e]|'" "$kept"; then
+        printf "  paste back: echo '%s' | tests/run --line\n" "$(cat "$kept")"
+    else
+        printf '  paste back: tests/run --line <%s\n' "${kept#"$root"/}"
+    fi
+    echo "  second: $(line_of "$5" "$3")"
+    echo "  calls:  $(line_of "$5" "$4" | tr -d '\0')"
+}
+
+# Has both programs answer the lines of a file and compares every byte; each line is a case.
+compare_lines() { # LABEL INPUT [FEEDER..]: the command that hands the file on; without one it is standard input
+    local label=$1 input=$2 want=$scratch/want got=$scratch/got said=$scratch/said answers status lines differ first
+    shift 2
+    "$second" calls <"$input" >"$want" &
+    answers=$!
+    if [ $# -gt 0 ]; then
+        "$@" <"$input" | timeout "$limit" "$calls" >"$got" 2>"$said"
+    else
+        timeout "$limit" "$calls" <"$input" >"$got" 2>"$said"
+    fi
+    status=$?
+    wait "$answers" || { echo "the second program failed: $label"; fail 1; return; }
+    lines=$(wc -l <"$want")
+    if cmp -s "$want" "$got" && [ "$status" = 0 ]; then
+        pass "$lines"
+        return
+    fi
+    read -r differ first < <(differing_lines "$want" "$got")
+    if [ "$differ" = 0 ]; then
+        echo "calls: $label: the lines are the same, but it ended with status $status, or its last line has no end"
+        differ=1
+    else
+        show_line "$label" "$input" "$want" "$got" "$first"
+        echo "  $differ of $lines lines differ; status $status$(head -c 300 "$said" | sed 's/^/; it said: /')"
+    fi
+    pass $((lines > differ ? lines - differ : 0))
+    fail "$differ"
+}
+
+# Hands a file on in pieces that end anywhere.
+in_pieces() {
+    local size
+    for size in 1 2 3 61 4000 4096 4097 65000; do
+        head -c "$size"
+        sleep 0.02
+    done
+    cat
+}
+
+# Inputs that are no plain row of lines.
+odd_inputs() {
+    local input=$scratch/odd
+    printf '' >"$input"
+    compare_lines 'no input' "$input"
+    printf '\n' >"$input"
+    compare_lines 'one empty line' "$input"
+    printf 'p2r 16 2 5' >"$input"
+    compare_lines 'a last line without LF' "$input"
+    printf 'p2r 16 2 5\ncheck 1' >"$input"
+    compare_lines 'a last line cut short, without LF' "$input"
+    printf 'p2r 16 2 5\n\ncheck 1 0\n ' >"$input"
+    compare_lines 'a last line of one blank' "$input"
+    { head -c 3000000 /dev/zero | tr '\0' 7; printf '\ncheck 1 0\n'; } >"$input"
+    compare_lines 'a word of 3,000,000 bytes' "$input"
+    { printf 'check 1 2'; yes ' 7' | head -n 500000 | tr -d '\n'; printf '\ncheck 1 0\n'; } >"$input"
+    compare_lines 'a line of 500,000 words' "$input"
+    { printf 'check 1 0'; head -c 3000000 /dev/zero | tr '\0' ' '; printf '\ncheck 1 0\n'; } >"$input"
+    compare_lines '3,000,000 blanks' "$input"
+    "$second" edges lists >"$input"
+    compare_lines 'lists, edges, in pieces' "$input" in_pieces
+}
+
+# Writes lines by the second program and compares the answers.
+compare_written() { # LABEL WORDS..
+    local label=$1
+    shift
+    if "$second" "$@" >"$scratch/lines"; then
+        compare_lines "$label" "$scratch/lines"
+    else
+        echo "the second program writes no lines: $label"
+        fail 1
+    fi
+}
+
+# The edges of a kind, if it has any, and its drawn lines.
+compare_kind() { # KIND
+    local began=$SECONDS
+    case $1 in
+    random | large) ;;
+    *) compare_written "$1, edges" edges "$1" ;;
+    esac
+    compare_written "$1, seed $seed" cases "$seed" "${drawn_lines[$1]}" "$1"
+    if [ "$1" = protocol ]; then odd_inputs; fi
+    echo "calls: $1 done, ${drawn_lines[$1]} lines drawn ($((SECONDS - began)) s)"
+}
+
+# What is stored with the crate `calls` is what the second program answers.
+compare_stored() {
+    local crate=$root/crates/calls
+    [ -f "$crate/stdin" ] || return 0
+    if "$second" calls <"$crate/stdin" >"$scratch/want" && cmp -s "$scratch/want" "$crate/stdout"; then
+        pass 1
+    else
+        echo "calls: the stored stdout is not what the second program answers: see tests/store"
+        fail 1
+    fi
+}

@@ -1,0 +1,208 @@
+//! The `calls` protocol: one library call a line, one answer a line.
+//!
+//! Lines. A line ends at LF and nowhere else; what follows the last LF, if anything, is a last line and is answered
+//! too. Every answer ends in LF. A line has no bound on its length: after a fault the rest of it is skipped.
+//!
+//! Words. A line is words parted by single blanks. A blank at the line's start or end, two blanks in a row, and an
+//! empty line are faults. Any byte but blank and LF belongs to its word: CR, tab and NUL are faults of their word.
+//! The first word names the call and is in small letters.
+//!
+//! Numbers. Plain decimal digits without leading zeros ("0" itself stands), 0 to 4294967295; a number of a TABLE is
+//! 0 to 65535. LIST, TABLE and RUN are a length and then exactly that many numbers; the length is at most 16500 for
+//! a LIST, 18500 for a TABLE, 200 for a RUN. HEADER is eight numbers. Each of D, P, VALUE, LENGTH, WIDTH, LOW and
+//! HIGH is any number. After the last part nothing may follow.
+//!
+//!     check D LIST                 ok N
+//!     scan D LIST HEADER           ok RULE | ok none
+//!     build D LIST TABLE           ok B | refused ..       then, either way, " table" and " NUMBER" for each number
+//!     lookup D LIST TABLE HEADER   ok RULE TESTS | ok none TESTS
+//!     audit D LIST TABLE           ok yes | ok no
+//!     report D LIST TABLE P        ok SIZE SMALLEST
+//!     independent D LIST           ok yes | ok no I J
+//!     p2r VALUE LENGTH WIDTH       ok LOW HIGH
+//!     r2p LOW HIGH WIDTH RUN       ok COUNT | refused ..   then, either way, " run" and " NUMBER" for each number
+//!     any refusal                  refused NUMBER FIRST SECOND
+//!     any fault of the line        bad
+//!
+//! The line is read whole before the call is made, so a fault anywhere in it answers `bad` and nothing else. A table
+//! or run of no numbers answers with the bare word " table" or " run". An answer neither starts nor ends in a blank.
+
+use crate::decimal::number_of;
+use crate::lists::{check, independence, scan, Header};
+use crate::lookup::lookup;
+use crate::prefixes::{prefix_to_range, range_to_prefixes};
+use crate::refusal::Refusal;
+use crate::table::{audit, build, report};
+
+pub const MOST_LIST: usize = 16500;
+pub const MOST_TABLE: usize = 18500;
+pub const MOST_RUN: usize = 200;
+
+/// The words of a line that are still to be read.
+struct Words<'a> {
+    rest: std::slice::Split<'a, u8, fn(&u8) -> bool>,
+}
+
+impl<'a> Words<'a> {
+    fn of(line: &'a [u8]) -> Words<'a> {
+        let is_blank: fn(&u8) -> bool = |byte| *byte == b' ';
+        Words { rest: line.split(is_blank) }
+    }
+
+    fn number(&mut self) -> Option<u32> {
+        number_of(self.rest.next()?)
+    }
+
+    /// A length of at most `most`, and that many numbers.
+    fn run(&mut self, most: usize) -> Option<Vec<u32>> {
+        let length = self.number()? as usize;
+        if length > most {
+            return None;
+        }
+        (0..length).map(|_| self.number()).collect()
+    }
+
+    fn list(&mut self) -> Option<Vec<u32>> {
+        self.run(MOST_LIST)
+    }
+
+    fn table(&mut self) -> Option<Vec<u16>> {
+        self.run(MOST_TABLE)?.into_iter().map(|x| if x > 65535 { None } else { Some(x as u16) }).collect()
+    }
+
+    fn header(&mut self) -> Option<Header> {
+        let mut header = [0; 8];
+        for number in &mut header {
+            *number = self.number()?;
+        }
+        Some(header)
+    }
+
+    /// Nothing follows.
+    fn end(&mut self) -> Option<()> {
+        match self.rest.next() {
+            None => Some(()),
+            Some(_) => None,
+        }
+    }
+}
+
+fn refused(refusal: Refusal) -> String {
+    format!("refused {} {} {}", refusal.number, refusal.first, refusal.second)
+}
+
+/// What is said of an answer, or of a refusal.
+fn said<T>(answer: Result<T, Refusal>, ok: impl Fn(T) -> String) -> String {
+    match answer {
+        Ok(value) => format!("ok {}", ok(value)),
+        Err(refusal) => refused(refusal),
+    }
+}
+
+fn rule_or_none(rule: Option<usize>) -> String {
+    match rule {
+        Some(rule) => rule.to_string(),
+        None => String::from("none"),
+    }
+}
+
+/// A word, and each number after a blank.
+fn lent<T: ToString>(word: &str, numbers: &[T]) -> String {
+    let mut out = format!(" {}", word);
+    for number in numbers {
+        out.push(' ');
+        out += &number.to_string();
+    }
+    out
+}
+
+fn call_check(words: &mut Words) -> Option<String> {
+    let (d, list) = (words.number()?, words.list()?);
+    words.end()?;
+    Some(said(check(d, &list), |n| n.to_string()))
+}
+
+fn call_scan(words: &mut Words) -> Option<String> {
+    let (d, list, header) = (words.number()?, words.list()?, words.header()?);
+    words.end()?;
+    Some(said(scan(d, &list, &header), rule_or_none))
+}
+
+fn call_build(words: &mut Words) -> Option<String> {
+    let (d, list, mut table) = (words.number()?, words.list()?, words.table()?);
+    words.end()?;
+    let answer = said(build(d, &list, &mut table), |b| b.to_string());
+    Some(answer + &lent("table", &table))
+}
+
+fn call_lookup(words: &mut Words) -> Option<String> {
+    let (d, list, table, header) = (words.number()?, words.list()?, words.table()?, words.header()?);
+    words.end()?;
+    Some(said(lookup(d, &list, &table, &header), |(rule, tests)| format!("{} {}", rule_or_none(rule), tests)))
+}
+
+fn call_audit(words: &mut Words) -> Option<String> {
+    let (d, list, table) = (words.number()?, words.list()?, words.table()?);
+    words.end()?;
+    Some(said(audit(d, &list, &table), |same| String::from(if same { "yes" } else { "no" })))
+}
+
+fn call_report(words: &mut Words) -> Option<String> {
+    let (d, list, table, p) = (words.number()?, words.list()?, words.table()?, words.number()?);
+    words.end()?;
+    Some(said(report(d, &list, &table, p), |(size, smallest)| format!("{} {}", size, smallest)))
+}
+
+fn call_independent(words: &mut Words) -> Option<String> {
+    let (d, list) = (words.number()?, words.list()?);
+    words.end()?;
+    Some(said(independence(d, &list), |pair| match pair {
+        None => String::from("yes"),
+        Some((i, j)) => format!("no {} {}", i, j),
+    }))
+}
+
+fn call_p2r(words: &mut Words) -> Option<String> {
+    let (value, length, width) = (words.number()?, words.number()?, words.number()?);
+    words.end()?;
+    Some(said(prefix_to_range(value, length, width), |(low, high)| format!("{} {}", low, high)))
+}
+
+fn call_r2p(words: &mut Words) -> Option<String> {
+    let (low, high, width, mut run) = (words.number()?, words.number()?, words.number()?, words.run(MOST_RUN)?);
+    words.end()?;
+    let answer = said(range_to_prefixes(low, high, width, &mut run), |count| count.to_string());
+    Some(answer + &lent("run", &run))
+}
+
+/// Makes the call of a line, or answers none where the line has a fault.
+fn call(line: &[u8]) -> Option<String> {
+    let mut words = Words::of(line);
+    match words.rest.next()? {
+        b"check" => call_check(&mut words),
+        b"scan" => call_scan(&mut words),
+        b"build" => call_build(&mut words),
+        b"lookup" => call_lookup(&mut words),
+        b"audit" => call_audit(&mut words),
+        b"report" => call_report(&mut words),
+        b"independent" => call_independent(&mut words),
+        b"p2r" => call_p2r(&mut words),
+        b"r2p" => call_r2p(&mut words),
+        _ => None,
+    }
+}
+
+/// Answers a line, given without its LF.
+pub fn answer(line: &[u8]) -> String {
+    call(line).unwrap_or_else(|| String::from("bad"))
+}
+
+/// Cuts the input into its lines, without their LF.
+pub fn lines_of(input: &[u8]) -> Vec<&[u8]> {
+    let mut lines: Vec<&[u8]> = input.split(|byte| *byte == b'\n').collect();
+    // what follows the last LF is a line only where it has a byte
+    if lines[lines.len() - 1].is_empty() {
+        lines.pop();
+    }
+    lines
+}

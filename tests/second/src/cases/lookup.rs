@@ -1,0 +1,246 @@
+//! Cases of layer 4: the lookup, mostly over tables that are not what the build writes.
+
+use super::characters::{drawn_header, drawn_list, spoiled_list, turned};
+use super::lines::Lines;
+use super::shapes::{
+    all_headers, altered, built, grid, header_of, nested, permutations, reversed, stairs, twins, BENCH, ODD_FIELDS, TOP,
+};
+use super::tables::{damage, looks_right};
+use crate::lists::Header;
+use crate::seed::Seed;
+
+/// The headers of B2 to B8.
+const MARKED: [[u32; 2]; 7] = [[7, 250], [7, 100], [7, 150], [8, 5], [9, 5], [10, 0], [7, 1000]];
+
+/// Looks a header up in the table that the build writes.
+fn look(out: &mut Lines, d: u32, list: &[u32], header: &Header) {
+    out.lookup(d, list, &built(d, list), header);
+}
+
+/// B2 to B9, with other numbers past d too.
+fn marked(out: &mut Lines) {
+    for rest in [0, 7, TOP] {
+        for numbers in MARKED {
+            look(out, 2, &BENCH, &header_of(&numbers, rest));
+        }
+        for d in 1..=8 {
+            look(out, d, &[], &[rest; 8]);
+        }
+    }
+}
+
+/// The bench list at and beside its ends, in both orders.
+fn bench(out: &mut Lines) {
+    for list in [BENCH.to_vec(), reversed(2, &BENCH)] {
+        for model in [0, 6, 7, 8, 9, 10] {
+            for serial in [0, 99, 100, 101, 199, 200, 299, 300, 999, 1000] {
+                look(out, 2, &list, &header_of(&[model, serial], TOP));
+            }
+        }
+    }
+}
+
+/// A header that takes d + k tests, its like at the other end, misses beyond both ends and in between.
+fn counts(out: &mut Lines) {
+    for d in 1..=8 {
+        for m in [1, 2, 3, 4, 5, 7, 8, 9] {
+            let mut list = stairs(m, d);
+            for end in &mut list {
+                *end += 1;
+            }
+            let last = 2 * m as u32;
+            for number in [0, 1, last, last + 1] {
+                look(out, d, &list, &[number; 8]);
+            }
+            // inside in every field but the last
+            let mut header = [1; 8];
+            header[d as usize - 1] = 0;
+            look(out, d, &list, &header);
+        }
+    }
+    for d in 1..=3 {
+        for header in all_headers(d, 4) {
+            look(out, d, &grid(d), &header);
+        }
+    }
+}
+
+/// The smallest candidate of all partitions: a later one may hold it, and all are walked.
+fn partitions(out: &mut Lines) {
+    let list = [0, 5, 3, 9, 6, 9, 0, 9, 10, 10, 0, 2];
+    for number in 0..=11 {
+        look(out, 1, &list, &header_of(&[number], 3));
+        look(out, 1, &reversed(1, &list), &header_of(&[number], 3));
+    }
+    for n in [2, 3, 5] {
+        for number in [0, 1, 6, 7, 8, 2999, 3000] {
+            look(out, 1, &twins(n, 1), &[number; 8]);
+            look(out, 1, &nested(n, 1), &[number; 8]);
+            look(out, 1, &reversed(1, &nested(n, 1)), &[number; 8]);
+        }
+    }
+}
+
+/// 0 and 4294967295 at either end.
+fn ends(out: &mut Lines) {
+    let list = [TOP, TOP, 0, 0, 1, TOP - 1, 0, TOP, 2147483648, 2147483648];
+    for number in [0, 1, 2147483647, 2147483648, 2147483649, TOP - 1, TOP] {
+        look(out, 1, &list, &header_of(&[number], 0));
+    }
+}
+
+/// Every single number of small tables altered, under all headers of a small space.
+fn altered_tables(out: &mut Lines) {
+    let mut all = |d: u32, list: &[u32], headers: &[Header]| {
+        for table in altered(&built(d, list), list.len() / (2 * d as usize)) {
+            for header in headers {
+                out.lookup(d, list, &table, header);
+            }
+        }
+    };
+    all(1, &[], &[[0; 8]]);
+    all(1, &[1, 2], &all_headers(1, 3));
+    all(1, &[1, 1, 3, 3, 5, 5], &all_headers(1, 6));
+    all(1, &[2, 3, 0, 1, 1, 2], &all_headers(1, 4));
+    all(2, &[1, 1, 1, 1, 1, 1, 3, 3, 3, 3, 2, 2], &all_headers(2, 3));
+    all(2, &[0, 1, 0, 1, 1, 1, 1, 1], &all_headers(2, 2));
+    all(3, &[1, 1, 0, 0, 0, 0, 1, 1, 0, 0, 1, 1], &all_headers(3, 1));
+    all(2, &BENCH, &MARKED.map(|numbers| header_of(&numbers, 0)));
+}
+
+/// Reading 3: all b and starts of 0 to 3 for two rules on one field.
+fn all_starts(out: &mut Lines) {
+    for code in 0..256u16 {
+        let digit = |i: u16| code >> (2 * i) & 3;
+        out.lookup(1, &[1, 1, 3, 3], &[2, 1, digit(0), 0, 1, digit(1), digit(2), digit(3), 0, 1, 1, 2], &[1; 8]);
+    }
+}
+
+/// All runs of two rules on one field; of rules that do not meet, and of rules that both fit 2, where a group of two
+/// places at field d is 6 though the rule of its first place fits.
+fn all_runs(out: &mut Lines) {
+    for code in 0..144u16 {
+        let (from, to) = ([code % 3, code / 3 % 3], [code / 9 % 4, code / 36]);
+        let table = [2, 1, 1, 0, 1, 0, 2, 0, from[0], from[1], to[0], to[1]];
+        for number in [0, 1, 3, 4] {
+            out.lookup(1, &[1, 1, 3, 3], &table, &header_of(&[number], 0));
+        }
+        out.lookup(1, &[1, 3, 0, 4], &table, &header_of(&[2], 0));
+    }
+}
+
+/// Order entries in all orders, and all that name a rule twice or one that is not there; every rule returned fits.
+fn unsorted(out: &mut Lines) {
+    let list = stairs(4, 1);
+    for order in permutations(&[0, 1, 2, 3]) {
+        let mut table = built(1, &list);
+        table[3..7].copy_from_slice(&order);
+        for number in 0..=8 {
+            out.lookup(1, &list, &table, &header_of(&[number], 0));
+        }
+    }
+    let list = [1, 1, 3, 3, 0, 4];
+    for code in 0..64 {
+        let mut table = built(1, &list);
+        table[3..6].copy_from_slice(&[code & 3, code >> 2 & 3, code >> 4]);
+        for number in [0, 1, 3, 5] {
+            out.lookup(1, &list, &table, &header_of(&[number], 0));
+        }
+    }
+}
+
+/// Reading 2: lists with low > high under tables that look right. Never 4.
+fn low_above_high(out: &mut Lines) {
+    for number in 0..=8 {
+        let header = header_of(&[number, number], 0);
+        out.lookup(1, &[5, 3], &[1, 1, 1, 0, 0, 1, 0, 1], &header);
+        out.lookup(1, &[1, 1, 5, 3, 7, 7], &built(1, &stairs(3, 1)), &header);
+        out.lookup(1, &[3, 1, 7, 5], &built(1, &twins(2, 1)), &header);
+        out.lookup(2, &[0, 9, 6, 2, 0, 9, 8, 7], &built(2, &[0, 9, 2, 6, 0, 9, 7, 8]), &header);
+        out.lookup(2, &[TOP, 0, 1, 1, 4, 4, TOP, 0], &built(2, &stairs(2, 2)), &header);
+    }
+}
+
+/// 1, 2, 3, 5, 6 in this order.
+fn refusals(out: &mut Lines) {
+    let mut at_zero = |d: u32, list: &[u32], table: &[u16]| out.lookup(d, list, table, &[0; 8]);
+    for d in ODD_FIELDS {
+        at_zero(d, &[], &[0, d as u16, 0, 0]);
+        at_zero(d, &[9, 7, 7], &[]);
+    }
+    for d in 1..=8 {
+        let list = stairs(2, d);
+        let right = built(d, &list);
+        at_zero(d, &list, &right);
+        at_zero(d, &list, &right[..right.len() - 1]);
+        at_zero(d, &list, &[&right[..], &[0]].concat());
+        at_zero(d, &list, &[]);
+        at_zero(d, &list[1..], &right);
+        at_zero(d, &[&list[..], &[7]].concat(), &right);
+        // 5 before 6: short, and n wrong
+        at_zero(d, &list, &[&[9], &right[1..right.len() - 1]].concat());
+    }
+    at_zero(1, &twins(1025, 1), &[]);
+    let mut long = twins(1025, 1);
+    long.push(7);
+    at_zero(1, &long, &[]);
+}
+
+/// 1,024 rules: one partition of them, and 1,024 partitions.
+fn many_rules(out: &mut Lines) {
+    let list = stairs(1024, 1);
+    for number in [0, 2047, 2048] {
+        look(out, 1, &list, &[number; 8]);
+    }
+    look(out, 1, &twins(1024, 1), &[7; 8]);
+    look(out, 8, &stairs(1024, 8), &[0; 8]);
+}
+
+pub fn edges(out: &mut Lines) {
+    marked(out);
+    bench(out);
+    counts(out);
+    partitions(out);
+    ends(out);
+    altered_tables(out);
+    all_starts(out);
+    all_runs(out);
+    unsorted(out);
+    low_above_high(out);
+    refusals(out);
+    many_rules(out);
+}
+
+/// A few drawn lookups on one drawn list: over its table, damaged, under a list with ends turned around, and over a
+/// table that was never built; last with a wrong length.
+pub fn drawn(seed: &mut Seed, out: &mut Lines) {
+    let (d, list) = drawn_list(seed);
+    let n = list.len() / (2 * d as usize);
+    let table = built(d, &list);
+    for _ in 0..3 {
+        out.lookup(d, &list, &table, &drawn_header(seed, d, &list));
+    }
+    for _ in 0..4 {
+        let mut damaged = table.clone();
+        damage(seed, &mut damaged, n);
+        out.lookup(d, &list, &damaged, &drawn_header(seed, d, &list));
+    }
+    let mut other = list.clone();
+    turned(seed, &mut other);
+    for _ in 0..2 {
+        out.lookup(d, &other, &table, &drawn_header(seed, d, &other));
+    }
+    for _ in 0..3 {
+        let never_built = looks_right(seed, n, d as usize);
+        let header = drawn_header(seed, d, &list);
+        out.lookup(d, &list, &never_built, &header);
+        out.lookup(d, &other, &never_built, &header);
+    }
+    let (mut d, mut list, mut table) = (d, list, table);
+    match seed.below(4) {
+        0 => drop(table.pop()),
+        1 => table.push(0),
+        _ => spoiled_list(seed, &mut d, &mut list),
+    }
+    out.lookup(d, &list, &table, &[7; 8]);
+}

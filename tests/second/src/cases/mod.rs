@@ -1,0 +1,50 @@
+//! The cases that the proved `calls` is held to, by kind: edges that are always the same, and drawn ones.
+
+pub mod characters;
+pub mod lines;
+mod lists;
+mod lookup;
+mod prefixes;
+mod protocol;
+mod random;
+pub mod shapes;
+mod sorting;
+pub mod tables;
+
+use crate::seed::Seed;
+use lines::Lines;
+
+/// The edges of a kind, or none where the kind has none.
+pub fn edges(kind: &str) -> Option<Lines> {
+    let mut out = Lines::default();
+    match kind {
+        "prefixes" => prefixes::edges(&mut out),
+        "lists" => lists::edges(&mut out),
+        "sorting" => sorting::edges(&mut out),
+        "lookup" => lookup::edges(&mut out),
+        "protocol" => protocol::edges(&mut out),
+        _ => return None,
+    }
+    Some(out)
+}
+
+/// Exactly `count` drawn lines of a kind, or none where there is no such kind.
+pub fn drawn(kind: &str, seed: u64, count: usize) -> Option<Lines> {
+    let draw: fn(&mut Seed, &mut Lines) = match kind {
+        "prefixes" => prefixes::drawn,
+        "lists" => lists::drawn,
+        "sorting" => sorting::drawn,
+        "lookup" => lookup::drawn,
+        "protocol" => protocol::drawn,
+        "random" => random::drawn,
+        "large" => random::drawn_large,
+        _ => return None,
+    };
+    let mut out = Lines::default();
+    let mut seed = Seed::new(seed);
+    while out.lines.len() < count {
+        draw(&mut seed, &mut out);
+    }
+    out.lines.truncate(count);
+    Some(out)
+}

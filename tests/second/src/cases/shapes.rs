@@ -1,0 +1,131 @@
+//! Lists, tables and headers that several kinds of cases are made from, none of them drawn.
+
+use crate::lists::{rules_of, Header};
+use crate::table::{table_length, table_of};
+
+pub const TOP: u32 = 4294967295;
+
+/// 01, A small bench list: d = 2, n = 5.
+pub const BENCH: [u32; 20] = [7, 7, 100, 100, 7, 7, 200, 299, 8, 8, 0, 999, 7, 7, 0, 999, 0, 9, 0, 999];
+
+/// Values of d at and around 1 to 8, and such as wrap to one of them in 8, 16 or 32 bits, doubled or not.
+pub const ODD_FIELDS: [u32; 14] =
+    [0, 9, 10, 16, 255, 256, 257, 264, 65536, 65537, 2147483647, 2147483648, 2147483649, TOP];
+
+/// A header of these numbers, and then of `rest`.
+pub fn header_of(numbers: &[u32], rest: u32) -> Header {
+    let mut header = [rest; 8];
+    header[..numbers.len()].copy_from_slice(numbers);
+    header
+}
+
+/// n rules that fit into one partition: rule i is 2i to 2i + 1 in every field.
+pub fn stairs(n: usize, d: u32) -> Vec<u32> {
+    (0..n as u32).flat_map(|i| [2 * i, 2 * i + 1].repeat(d as usize)).collect()
+}
+
+/// n rules, each within the one before it: rule i is i to 3000 - i in every field.
+pub fn nested(n: usize, d: u32) -> Vec<u32> {
+    (0..n as u32).flat_map(|i| [i, 3000 - i].repeat(d as usize)).collect()
+}
+
+/// n rules, all of them 7 to 7 in every field.
+pub fn twins(n: usize, d: u32) -> Vec<u32> {
+    vec![7; 2 * d as usize * n]
+}
+
+/// The same rules, last first.
+pub fn reversed(d: u32, list: &[u32]) -> Vec<u32> {
+    list.chunks(2 * d as usize).rev().flatten().copied().collect()
+}
+
+/// Every rule on d fields whose fields are each 0 to 1 or 2 to 3: 2^d rules that share runs and one partition.
+pub fn grid(d: u32) -> Vec<u32> {
+    let field = |i: u32, f: u32| if i >> f & 1 == 0 { [0, 1] } else { [2, 3] };
+    (0..1u32 << d).flat_map(|i| (0..d).flat_map(move |f| field(i, f))).collect()
+}
+
+/// All ranges within 0 to top, both counted.
+pub fn all_ranges(top: u32) -> Vec<[u32; 2]> {
+    (0..=top).flat_map(|low| (low..=top).map(move |high| [low, high])).collect()
+}
+
+/// All lists of this many ranges, each within 0 to top.
+pub fn all_lists(ranges: usize, top: u32) -> Vec<Vec<u32>> {
+    let mut lists = vec![Vec::new()];
+    for _ in 0..ranges {
+        lists = lists
+            .iter()
+            .flat_map(|list: &Vec<u32>| all_ranges(top).into_iter().map(move |range| [&list[..], &range[..]].concat()))
+            .collect();
+    }
+    lists
+}
+
+/// All headers whose first d numbers are each 0 to top.
+pub fn all_headers(d: u32, top: u32) -> Vec<Header> {
+    let mut headers = vec![[0; 8]];
+    for f in 0..d as usize {
+        headers = headers
+            .iter()
+            .flat_map(|header| {
+                (0..=top).map(move |number| {
+                    let mut next = *header;
+                    next[f] = number;
+                    next
+                })
+            })
+            .collect();
+    }
+    headers
+}
+
+/// The table that the build writes for a list of the right length; the list may have low > high nowhere.
+pub fn built(d: u32, list: &[u32]) -> Vec<u16> {
+    let rules = rules_of(d, list).expect("a list of the right length");
+    table_of(&rules, d as usize)
+}
+
+/// A table of the right length for n rules on d fields, filled with numbers that the build would not leave.
+pub fn unwritten(n: usize, d: u32) -> Vec<u16> {
+    filled(table_length(n, d as usize))
+}
+
+/// A table of this length, filled with numbers of one digit.
+pub fn filled(length: usize) -> Vec<u16> {
+    (0..length).map(|i| ((7 * i + 3) % 10) as u16).collect()
+}
+
+/// The table with each single number altered in turn: to 0, to n, to 65535, and by one either way.
+pub fn altered(table: &[u16], n: usize) -> Vec<Vec<u16>> {
+    let mut tables = Vec::new();
+    for i in 0..table.len() {
+        let old = table[i];
+        let mut others = vec![0, n as u16, 65535, old.wrapping_add(1), old.wrapping_sub(1)];
+        others.sort();
+        others.dedup();
+        for other in others.into_iter().filter(|other| *other != old) {
+            let mut next = table.to_vec();
+            next[i] = other;
+            tables.push(next);
+        }
+    }
+    tables
+}
+
+/// All orders of the items.
+pub fn permutations<T: Clone>(items: &[T]) -> Vec<Vec<T>> {
+    if items.is_empty() {
+        return vec![Vec::new()];
+    }
+    let mut all = Vec::new();
+    for i in 0..items.len() {
+        let mut rest = items.to_vec();
+        let first = rest.remove(i);
+        for mut tail in permutations(&rest) {
+            tail.insert(0, first.clone());
+            all.push(tail);
+        }
+    }
+    all
+}

@@ -1,0 +1,75 @@
+//! Drawn tables: damaged ones, and ones that look right and were never built.
+
+use crate::seed::Seed;
+use crate::table::table_length;
+
+/// A number that a table of n rules could hold, or just could not.
+fn drawn_number(seed: &mut Seed, n: usize) -> u16 {
+    match seed.below(8) {
+        0 => 65535,
+        1 => n as u16,
+        2 => n as u16 + 1,
+        3 => 0,
+        _ => seed.below(n + 1) as u16,
+    }
+}
+
+/// Alters up to three numbers, or swaps two.
+pub fn damage(seed: &mut Seed, table: &mut [u16], n: usize) {
+    for _ in 0..1 + seed.below(3) {
+        let at = seed.below(table.len());
+        match seed.below(4) {
+            0 => table[at] = drawn_number(seed, n),
+            1 => table[at] = table[at].wrapping_add(1),
+            2 => table[at] = table[at].wrapping_sub(1),
+            _ => {
+                let other = (at + 1 + seed.below(4)) % table.len();
+                table.swap(at, other);
+            }
+        }
+    }
+}
+
+/// Strictly ascending starts from 0 to n for a drawn number of partitions.
+fn drawn_starts(seed: &mut Seed, n: usize) -> Vec<usize> {
+    let mut starts = vec![0];
+    while starts[starts.len() - 1] < n {
+        let last = starts[starts.len() - 1];
+        let size = if seed.once_in(3) { 1 } else { 1 + seed.below(n - last) };
+        starts.push(last + size);
+    }
+    starts
+}
+
+/// A table whose starts are right; its order is drawn, now and then with a rule twice; its runs mostly hold their
+/// place, lie within their partition, shrink from field to field, and mostly end as one place.
+pub fn looks_right(seed: &mut Seed, n: usize, d: usize) -> Vec<u16> {
+    let starts = drawn_starts(seed, n);
+    let b = starts.len() - 1;
+    let mut order: Vec<usize> = (0..n).collect();
+    if seed.once_in(2) {
+        seed.shuffle(&mut order);
+    }
+    if n > 0 && seed.once_in(4) {
+        let at = seed.below(n);
+        order[at] = seed.below(n);
+    }
+    let (mut run_from, mut run_to) = (Vec::new(), Vec::new());
+    for k in 0..b {
+        for place in starts[k]..starts[k + 1] {
+            let (mut from, mut to) = (starts[k], starts[k + 1]);
+            for f in 0..d {
+                let last = f + 1 == d && !seed.once_in(8);
+                from = if last || seed.once_in(2) { place } else { from + seed.below(place - from + 1) };
+                to = if last || seed.once_in(2) { place + 1 } else { to - seed.below(to - place) };
+                run_from.push(from);
+                run_to.push(to);
+            }
+        }
+    }
+    let mut padded = starts;
+    padded.resize(n + 1, 0);
+    let table: Vec<u16> = [vec![n, d, b], order, padded, run_from, run_to].concat().iter().map(|x| *x as u16).collect();
+    assert_eq!(table.len(), table_length(n, d));
+    table
+}

@@ -1,0 +1,88 @@
+//! The cases are worth running: every refusal of every call comes up, no edge is faulty by mistake, sizes stay small.
+
+use std::collections::BTreeSet;
+
+use crate::calls::answer;
+use crate::cases::{drawn, edges};
+
+const KINDS: [&str; 5] = ["prefixes", "lists", "sorting", "lookup", "protocol"];
+
+/// 01, Refusal numbers: the checks of each call.
+const REFUSALS: [(&str, &[u32]); 9] = [
+    ("check", &[1, 2, 3, 4]),
+    ("scan", &[1, 2, 3, 4]),
+    ("independent", &[1, 2, 3, 4]),
+    ("build", &[1, 2, 3, 4, 5]),
+    ("audit", &[1, 2, 3, 4, 5]),
+    ("lookup", &[1, 2, 3, 5, 6]),
+    ("report", &[1, 2, 3, 5, 6, 7]),
+    ("p2r", &[9, 10]),
+    ("r2p", &[9, 11, 12]),
+];
+
+/// Word i of a text.
+fn word(text: &str, i: usize) -> String {
+    String::from(text.split(' ').nth(i).unwrap_or(""))
+}
+
+/// The calls and the refusal numbers among these lines.
+fn refusals_of(lines: &[Vec<u8>]) -> BTreeSet<(String, u32)> {
+    let mut refusals = BTreeSet::new();
+    for line in lines {
+        let said = answer(line);
+        if word(&said, 0) == "refused" {
+            refusals.insert((word(&String::from_utf8_lossy(line), 0), word(&said, 1).parse().unwrap()));
+        }
+    }
+    refusals
+}
+
+/// Every call with each of its refusals.
+fn all_refusals() -> BTreeSet<(String, u32)> {
+    REFUSALS.iter().flat_map(|(call, numbers)| numbers.iter().map(move |n| (String::from(*call), *n))).collect()
+}
+
+#[test]
+fn edges_bring_up_every_refusal_and_no_other() {
+    let lines: Vec<Vec<u8>> = KINDS.iter().flat_map(|kind| edges(kind).unwrap().lines).collect();
+    assert_eq!(refusals_of(&lines), all_refusals());
+}
+
+#[test]
+fn drawn_cases_bring_up_every_refusal_of_their_layer() {
+    for (kind, calls) in [
+        ("prefixes", vec!["p2r", "r2p"]),
+        ("lists", vec!["check", "scan", "independent"]),
+        ("sorting", vec!["build", "audit", "report"]),
+        ("lookup", vec!["lookup"]),
+    ] {
+        let wanted: BTreeSet<(String, u32)> =
+            all_refusals().into_iter().filter(|(call, _)| calls.contains(&call.as_str())).collect();
+        assert_eq!(refusals_of(&drawn(kind, 8, 20000).unwrap().lines), wanted);
+    }
+}
+
+#[test]
+fn only_the_protocol_has_faulty_lines() {
+    for kind in KINDS {
+        let faulty = edges(kind).unwrap().lines.iter().filter(|line| answer(line) == "bad").count();
+        assert_eq!(faulty > 0, kind == "protocol", "{}: {} faulty", kind, faulty);
+    }
+    for kind in ["prefixes", "lists", "sorting", "lookup", "random", "large"] {
+        assert!(drawn(kind, 9, 60).unwrap().lines.iter().all(|line| answer(line) != "bad"));
+    }
+}
+
+#[test]
+fn a_stored_file_of_edges_has_at_most_a_million_bytes() {
+    for kind in KINDS {
+        let bytes: usize = edges(kind).unwrap().lines.iter().map(|line| line.len() + 1).sum();
+        assert!(bytes <= 1_000_000, "{}: {} bytes", kind, bytes);
+    }
+}
+
+#[test]
+fn a_seed_draws_the_same_lines_again() {
+    assert_eq!(drawn("random", 10, 500).unwrap().lines, drawn("random", 10, 500).unwrap().lines);
+    assert_ne!(drawn("random", 10, 500).unwrap().lines, drawn("random", 11, 500).unwrap().lines);
+}

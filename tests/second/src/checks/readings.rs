@@ -1,0 +1,156 @@
+//! One check for each reading of 01 that was chosen, by its number in docs/DECISIONS.md; then the calls protocol.
+
+use crate::calls::answer;
+use crate::cases::shapes::{built, stairs, twins, BENCH, TOP};
+use crate::lists::{independence, rules_of};
+use crate::lookup::lookup;
+use crate::prefixes::range_to_prefixes;
+use crate::program::printed;
+use crate::ranges::{side_of, Range, Side};
+use crate::refusal::{refuse, refuse_at};
+use crate::sorting::{standing, Standing};
+use crate::table::{audit, report};
+
+fn stand(d: u32, two_rules: &[u32]) -> Standing {
+    let rules = rules_of(d, two_rules).unwrap();
+    standing(&rules[0], &rules[1])
+}
+
+#[test]
+fn reading_1_first_unequal_field_decides() {
+    assert_eq!(stand(1, &[0, 9, 7, 7]), Standing::Clash);
+    assert_eq!(stand(1, &[0, 6, 7, 7]), Standing::Before);
+    assert_eq!(stand(1, &[7, 7, 0, 6]), Standing::After);
+    assert_eq!(stand(1, &[7, 7, 7, 7]), Standing::Clash);
+    assert_eq!(stand(2, &[7, 7, 1, 2, 7, 7, 3, 4]), Standing::Before);
+    // a clash in field 0 ends the comparison, though field 1 would order them
+    assert_eq!(stand(2, &[0, 9, 1, 2, 7, 7, 3, 4]), Standing::Clash);
+    // and an order in field 0 ends it, though they clash in field 1
+    assert_eq!(stand(2, &[0, 6, 1, 2, 7, 7, 1, 2]), Standing::Before);
+}
+
+#[test]
+fn reading_2_below_is_tried_before_above() {
+    let turned = Range { low: 5, high: 3 };
+    let sides: Vec<Side> = [3, 4, 5, 6].iter().map(|number| side_of(turned, *number)).collect();
+    assert_eq!(sides, [Side::Below, Side::Below, Side::Above, Side::Above]);
+}
+
+#[test]
+fn reading_3_no_partition_for_some_rules_is_6() {
+    let mut table = built(1, &stairs(2, 1));
+    table[2] = 0;
+    assert_eq!(lookup(1, &stairs(2, 1), &table, &[0; 8]), Err(refuse(6)));
+    assert_eq!(report(1, &stairs(2, 1), &table, 0), Err(refuse(6)));
+    table[2] = 3;
+    assert_eq!(lookup(1, &stairs(2, 1), &table, &[0; 8]), Err(refuse(6)));
+    assert_eq!(lookup(1, &[], &[0, 1, 1, 0], &[0; 8]), Err(refuse(6)));
+}
+
+#[test]
+fn reading_4_a_failed_confirmation_is_6_and_an_audit_never() {
+    // place 1's run of field 0 reaches too far back, so the walk at 1, 0 ends at place 0, whose field 0 it never tested
+    let wide_run = [2, 2, 1, 0, 1, 0, 2, 0, 0, 0, 0, 1, 1, 1, 2, 2];
+    let header = [1, 0, 0, 0, 0, 0, 0, 0];
+    assert_eq!(lookup(2, &[0, 1, 0, 0, 1, 1, 5, 5], &wide_run, &header), Ok((Some(0), 3)));
+    assert_eq!(lookup(2, &[0, 0, 0, 0, 1, 1, 5, 5], &wide_run, &header), Err(refuse(6)));
+    let mut wrong = built(2, &BENCH);
+    wrong[0] = 4;
+    assert_eq!(audit(2, &BENCH, &wrong), Ok(false));
+}
+
+#[test]
+fn reading_5_no_rules_is_7_for_every_partition() {
+    for p in [0, 1, TOP] {
+        assert_eq!(report(1, &[], &[0, 1, 0, 0], p), Err(refuse(7)));
+    }
+    // the opening's 6 before 7, and 7 before the partition's 6
+    let mut table = built(1, &twins(2, 1));
+    table[0] = 9;
+    assert_eq!(report(1, &twins(2, 1), &table, 9), Err(refuse(6)));
+    let mut table = built(1, &twins(2, 1));
+    table[3] = 9;
+    assert_eq!(report(1, &twins(2, 1), &table, 2), Err(refuse(7)));
+    assert_eq!(report(1, &twins(2, 1), &table, 0), Err(refuse(6)));
+    assert_eq!(report(1, &twins(2, 1), &table, 1), Ok((1, 1)));
+}
+
+#[test]
+fn reading_6_room_is_counted_before_the_first_write() {
+    let mut run = [9; 15];
+    assert_eq!(range_to_prefixes(1, 30, 5, &mut run), Err(refuse_at(12, 8, 0)));
+    assert_eq!(run, [9; 15]);
+    let mut run = [9; 5];
+    assert_eq!(range_to_prefixes(0, 2, 2, &mut run), Ok(2));
+    assert_eq!(run, [0, 1, 2, 2, 9]);
+}
+
+#[test]
+fn reading_7_lines_of_the_program() {
+    let prints = |rules: &str, headers: &str| printed(rules.as_bytes(), headers.as_bytes());
+    // rules: line 1
+    assert_eq!(prints("", "7\r\n"), "refused,1\r\n");
+    assert_eq!(prints("\r\n", ""), "refused,8\r\n");
+    assert_eq!(prints("7", ""), "refused,8\r\n");
+    assert_eq!(prints(&vec!["1"; 17].join(","), ""), "refused,8\r\n");
+    assert_eq!(prints(&vec!["1"; 18].join(","), ""), "refused,1\r\n");
+    assert_eq!(prints(&vec!["01"; 18].join(","), ""), "refused,8\r\n");
+    // line ends
+    assert_eq!(prints("7,7\n", ""), "refused,8\r\n");
+    assert_eq!(prints("7,7\r", ""), "refused,8\r\n");
+    assert_eq!(prints("7,7\r\n\r\n", ""), "refused,8\r\n");
+    assert_eq!(prints("7,7", ""), "rule,tests\r\n");
+    // later lines: 8 in line order, 3 at line 1,025, and then 4
+    assert_eq!(prints("8,7\r\n7", ""), "refused,8\r\n");
+    assert_eq!(prints("8,7\r\n7,7", ""), "refused,4\r\n");
+    assert_eq!(prints(&("8,7\r\n".repeat(1024) + "\r"), ""), "refused,3\r\n");
+    assert_eq!(prints(&("8,7\r\n".repeat(1024)), ""), "refused,4\r\n");
+    assert_eq!(prints(&("7,7\r\n".repeat(1023) + "x\r\nx"), ""), "refused,8\r\n");
+    // headers
+    assert_eq!(prints("7,7", "7\r\n7,7\r\n\r\n8"), "rule,tests\r\n0,1\r\nrefused,8\r\nrefused,8\r\nnone,1\r\n");
+}
+
+#[test]
+fn reading_8_a_last_rule_that_catches_all_counts() {
+    assert_eq!(independence(1, &[0, 1, 4, 5, 0, TOP]), Ok(Some((0, 2))));
+}
+
+#[test]
+fn lines_of_the_calls_protocol() {
+    let says = |line: &str| answer(line.as_bytes());
+    assert_eq!(says("check 1 2 7 7"), "ok 1");
+    assert_eq!(says("check 2 4 1 1 8 7"), "refused 4 0 1");
+    assert_eq!(says("scan 1 2 7 7 7 0 0 0 0 0 0 0"), "ok 0");
+    assert_eq!(says("scan 1 2 7 7 8 0 0 0 0 0 0 0"), "ok none");
+    assert_eq!(says("build 1 2 7 7 8 9 9 9 9 9 9 9 9"), "ok 1 table 1 1 1 0 0 1 0 1");
+    assert_eq!(says("build 1 2 7 7 3 9 9 9"), "refused 5 0 0 table 9 9 9");
+    assert_eq!(says("build 1 2 7 7 0"), "refused 5 0 0 table");
+    assert_eq!(says("lookup 1 2 7 7 8 1 1 1 0 0 1 0 1 7 0 0 0 0 0 0 0"), "ok 0 1");
+    assert_eq!(says("lookup 1 2 7 7 8 1 1 1 0 0 1 0 1 8 0 0 0 0 0 0 0"), "ok none 1");
+    assert_eq!(says("audit 1 2 7 7 8 1 1 1 0 0 1 0 1"), "ok yes");
+    assert_eq!(says("audit 1 2 7 7 8 1 1 1 0 0 1 0 2"), "ok no");
+    assert_eq!(says("report 1 2 7 7 8 1 1 1 0 0 1 0 1 0"), "ok 1 0");
+    assert_eq!(says("independent 1 4 0 1 2 3"), "ok yes");
+    assert_eq!(says("independent 1 4 0 2 2 3"), "ok no 0 1");
+    assert_eq!(says("p2r 16 2 5"), "ok 16 23");
+    assert_eq!(says("r2p 16 23 5 3 9 9 9"), "ok 1 run 16 2 9");
+    assert_eq!(says("r2p 16 23 5 1 9"), "refused 12 1 0 run 9");
+    for bad in [
+        "",
+        " ",
+        "check",
+        "check 1",
+        "check 1 2 7",
+        "check 1 2 7 7 7",
+        "check  1 2 7 7",
+        "check 1 2 7 7 ",
+        "check 1 2 7 07",
+    ] {
+        assert_eq!(says(bad), "bad");
+    }
+    for bad in
+        ["Check 1 0", "check 1 0\r", " check 1 0", "check 1 16501", "p2r 0 0 4294967296", "audit 1 0 4 0 1 0 65536"]
+    {
+        assert_eq!(says(bad), "bad");
+    }
+}

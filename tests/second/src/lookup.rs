@@ -1,0 +1,65 @@
+//! 01, The walk: the lookup of a header in a table, as the paper's loop.
+
+use crate::lists::{fits, Header, Rule};
+use crate::ranges::{side_of, Side};
+use crate::refusal::{refuse, Refusal};
+use crate::table::{open, Table};
+
+/// What one partition answers: the candidate, or none for a miss, and the tests made.
+pub struct Walked {
+    pub candidate: Option<usize>,
+    pub tests: usize,
+}
+
+/// Walks a partition from place s to before place e, or answers 6.
+pub fn walk(rules: &[Rule], table: &Table, header: &Header, s: usize, e: usize) -> Result<Walked, Refusal> {
+    let (n, d) = (table.n, table.d);
+    let (mut start, mut end, mut field, mut tests) = (s, e, 0, 0);
+    while start < end && field < d {
+        let mid = start + (end - start) / 2;
+        let rule = table.order(mid);
+        if rule >= n {
+            return Err(refuse(6));
+        }
+        let (from, to) = (table.run_from(mid, field), table.run_to(mid, field));
+        if !(start <= from && from <= mid && mid < to && to <= end) {
+            return Err(refuse(6));
+        }
+        tests += 1;
+        match side_of(rules[rule][field], header[field]) {
+            Side::Below => end = from,
+            Side::Above => start = to,
+            Side::Inside => {
+                start = from;
+                end = to;
+                field += 1;
+            }
+        }
+    }
+    if start >= end {
+        return Ok(Walked { candidate: None, tests });
+    }
+    if end - start != 1 {
+        return Err(refuse(6));
+    }
+    let rule = table.order(start);
+    // Reading 4: a failed confirming comparison is 6 and no miss. It is not counted.
+    if rule >= n || !fits(&rules[rule], header) {
+        return Err(refuse(6));
+    }
+    Ok(Walked { candidate: Some(rule), tests })
+}
+
+/// Answers the smallest candidate of all partitions, or none, and the sum of the tests; or 1, 2, 3, 5, 6.
+pub fn lookup(d: u32, list: &[u32], table: &[u16], header: &Header) -> Result<(Option<usize>, usize), Refusal> {
+    let (rules, table) = open(d, list, table)?;
+    let mut candidates = Vec::new();
+    let mut tests = 0;
+    for k in 0..table.b() {
+        let (s, e) = table.partition(k)?;
+        let walked = walk(&rules, &table, header, s, e)?;
+        tests += walked.tests;
+        candidates.extend(walked.candidate);
+    }
+    Ok((candidates.into_iter().min(), tests))
+}

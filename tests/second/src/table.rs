@@ -1,0 +1,145 @@
+//! 01, The working table: what the build writes, the audit, what a table's opening needs, and the report.
+
+use crate::lists::{checked_rules_of, rules_of, Rule};
+use crate::refusal::{refuse, Refusal};
+use crate::sorting::{ascending, first_fit};
+
+/// How many numbers a table of n rules on d fields has.
+pub fn table_length(n: usize, d: usize) -> usize {
+    4 + 2 * n + 2 * n * d
+}
+
+/// The table that the build writes for these rules on d fields.
+pub fn table_of(rules: &[Rule], d: usize) -> Vec<u16> {
+    let n = rules.len();
+    let partitions: Vec<Vec<usize>> = first_fit(rules).iter().map(|members| ascending(rules, members)).collect();
+    let b = partitions.len();
+    let order: Vec<usize> = partitions.concat();
+    let mut starts = vec![0];
+    for members in &partitions {
+        starts.push(starts[starts.len() - 1] + members.len());
+    }
+    let mut run_from = Vec::new();
+    let mut run_to = Vec::new();
+    for k in 0..b {
+        for p in starts[k]..starts[k + 1] {
+            for f in 0..d {
+                // the places of this partition whose rules have the same ranges in fields 0 to f
+                let alike = |q: &usize| rules[order[*q]][..=f] == rules[order[p]][..=f];
+                let run: Vec<usize> = (starts[k]..starts[k + 1]).filter(alike).collect();
+                let (first, last) = (run[0], run[run.len() - 1]);
+                assert_eq!(run.len(), last + 1 - first, "a run is a stretch");
+                run_from.push(first);
+                run_to.push(last + 1);
+            }
+        }
+    }
+    starts.resize(n + 1, 0);
+    let table: Vec<u16> = [vec![n, d, b], order, starts, run_from, run_to].concat().iter().map(|x| *x as u16).collect();
+    assert_eq!(table.len(), table_length(n, d));
+    table
+}
+
+/// Writes the table and answers the number of partitions, or 1, 2, 3, 4, 5.
+pub fn build(d: u32, list: &[u32], table: &mut [u16]) -> Result<usize, Refusal> {
+    let rules = checked_rules_of(d, list)?;
+    if table.len() != table_length(rules.len(), d as usize) {
+        return Err(refuse(5));
+    }
+    table.copy_from_slice(&table_of(&rules, d as usize));
+    Ok(table[2] as usize)
+}
+
+/// Answers whether every number of the table is what the build would write, or 1, 2, 3, 4, 5.
+/// Reading 4: a wrong n or d in the table is a plain no.
+pub fn audit(d: u32, list: &[u32], table: &[u16]) -> Result<bool, Refusal> {
+    let rules = checked_rules_of(d, list)?;
+    if table.len() != table_length(rules.len(), d as usize) {
+        return Err(refuse(5));
+    }
+    Ok(table == table_of(&rules, d as usize))
+}
+
+/// A lent table of the right length, read part by part.
+pub struct Table<'a> {
+    pub n: usize,
+    pub d: usize,
+    numbers: &'a [u16],
+}
+
+impl Table<'_> {
+    /// The number of partitions.
+    pub fn b(&self) -> usize {
+        self.numbers[2] as usize
+    }
+
+    /// The rule number at a place.
+    pub fn order(&self, place: usize) -> usize {
+        assert!(place < self.n);
+        self.numbers[3 + place] as usize
+    }
+
+    /// The first place of partition k; k is at most n.
+    pub fn start(&self, k: usize) -> usize {
+        assert!(k <= self.n);
+        self.numbers[3 + self.n + k] as usize
+    }
+
+    pub fn run_from(&self, place: usize, field: usize) -> usize {
+        assert!(place < self.n && field < self.d);
+        self.numbers[4 + 2 * self.n + place * self.d + field] as usize
+    }
+
+    pub fn run_to(&self, place: usize, field: usize) -> usize {
+        assert!(place < self.n && field < self.d);
+        self.numbers[4 + 2 * self.n + self.n * self.d + place * self.d + field] as usize
+    }
+
+    /// The places of partition k, from a first to before a next, or 6.
+    pub fn partition(&self, k: usize) -> Result<(usize, usize), Refusal> {
+        let (start, next) = (self.start(k), self.start(k + 1));
+        if start >= next || next > self.n {
+            return Err(refuse(6));
+        }
+        Ok((start, next))
+    }
+}
+
+/// Takes the list's rules and the table, or answers 1, 2, 3, 5, and 6 for the opening.
+/// Reading 3: b ≤ n is tested before start b is read, so with n > 0 a b of 0 is 6.
+pub fn open<'a>(d: u32, list: &[u32], table: &'a [u16]) -> Result<(Vec<Rule>, Table<'a>), Refusal> {
+    let rules = rules_of(d, list)?;
+    let (n, d) = (rules.len(), d as usize);
+    if table.len() != table_length(n, d) {
+        return Err(refuse(5));
+    }
+    let numbers = table;
+    let table = Table { n, d, numbers };
+    if numbers[0] as usize != n || numbers[1] as usize != d {
+        return Err(refuse(6));
+    }
+    if table.b() > n || table.start(0) != 0 || table.start(table.b()) != n {
+        return Err(refuse(6));
+    }
+    Ok((rules, table))
+}
+
+/// Answers a partition's size and smallest rule number, or 1, 2, 3, 5, 6 for the opening, 7, 6 for the partition.
+/// Reading 5: with n = 0 and a fine opening every partition number is 7.
+pub fn report(d: u32, list: &[u32], table: &[u16], k: u32) -> Result<(usize, usize), Refusal> {
+    let (_, table) = open(d, list, table)?;
+    let k = k as usize;
+    if k >= table.b() {
+        return Err(refuse(7));
+    }
+    let (start, next) = table.partition(k)?;
+    let members: Vec<usize> = (start..next).map(|place| table.order(place)).collect();
+    if members.iter().any(|rule| *rule >= table.n) {
+        return Err(refuse(6));
+    }
+    let mut smallest = members[0];
+    for rule in members {
+        smallest = smallest.min(rule);
+    }
+    Ok((next - start, smallest))
+}
