@@ -26,6 +26,9 @@
  * Every pointer is aligned for its type and not null, also where the length beside it is 0. It points to as many numbers
  * as that length says, or the brackets of the parameter. A run that a call writes overlaps no other run of that call, and
  * nothing else writes to any of them while the call runs. Nothing more: the numbers may be any.
+ *
+ * The functions keep nothing between calls and allocate nothing. cuy_audit takes some 41 KB of stack, the others less than
+ * 8 KB (measured, not proved). The archive wants memcpy and memset of the C library, and nothing else.
  */
 #ifndef CUYENALOT_H
 #define CUYENALOT_H
@@ -78,7 +81,7 @@ uint32_t cuy_build(size_t d, const uint32_t *list, size_t list_length, uint16_t 
 
 /* Looks a header up in a table. Answers 1 in answer[3] and a rule number in answer[4], or 0 in both where no rule fits; and
  * in answer[5] the number of range tests. In a table that cuy_build wrote for this list the rule is the first match, and
- * nothing is refused. In any other a rule that is answered fits the header, or the call is refused.
+ * nothing is refused. In any other table a rule that is answered still fits the header.
  * Refuses with 1, 2, 3, 5, 6; never with 4, since it does not read the whole list. */
 uint32_t cuy_lookup(size_t d, const uint32_t *list, size_t list_length, const uint16_t *table, size_t table_length,
                     const uint32_t header[8], uint64_t answer[6]);

@@ -22,6 +22,12 @@ use Rattle.lists.specs.declared.scan.Match.{Match}
 use Rattle.lists.specs.declared.scan.Match.the-variants as match
 use Rattle.lists.specs.declared.independence.Pair.{Pair}
 use Rattle.lists.specs.declared.independence.Pair.the-variants as pair
+use Rattle.sorting.specs.Build.{saysVerdict}
+use Rattle.sorting.specs.Report.{saysPart}
+use Rattle.sorting.specs.declared.audit.Verdict.{Verdict}
+use Rattle.sorting.specs.declared.audit.Verdict.the-variants as verdict
+use Rattle.sorting.specs.declared.report.Part.{Part}
+use Rattle.sorting.specs.declared.report.Part.the-variants as part
 use Rattle.lookup.specs.declared.lookup.Looked.{Looked}
 use Rattle.lookup.specs.declared.lookup.Looked.the-variants as looked
 use Rattle.interface.specs.Answers.{numbersOf, saysInPlace}
@@ -95,6 +101,35 @@ pub pair-back : (x : Pair) → PairRefuses x → pairIn (numbersOf 3 (saysPair x
 pair-back pair.Independent p = refl
 pair-back (pair.Both i j) p = refl
 pair-back (pair.Refused x) p = rw (ne-eqb (x .number) 0 p)
+
+-- ---- an audit
+abbrev pub VerdictRefuses : Verdict → Type 0
+VerdictRefuses verdict.Yes = Unit {0}
+VerdictRefuses verdict.No = Unit {0}
+VerdictRefuses (verdict.Refused x) = Refuses x
+
+abbrev pub verdictIn : List ℕ → Verdict
+verdictIn run =
+    pick (stands (refusalIn run))
+    (pick (eqb (nth 3 run) 1) verdict.Yes verdict.No)
+    (verdict.Refused (refusalIn run))
+
+pub verdict-back : (x : Verdict) → VerdictRefuses x → verdictIn (numbersOf 1 (saysVerdict x)) ≡ x
+verdict-back verdict.Yes p = refl
+verdict-back verdict.No p = refl
+verdict-back (verdict.Refused x) p = rw (ne-eqb (x .number) 0 p)
+
+-- ---- a report
+abbrev pub PartRefuses : Part → Type 0
+PartRefuses (part.Is size least) = Unit {0}
+PartRefuses (part.Refused x) = Refuses x
+
+abbrev pub partIn : List ℕ → Part
+partIn run = pick (stands (refusalIn run)) (part.Is (nth 3 run) (nth 4 run)) (part.Refused (refusalIn run))
+
+pub part-back : (x : Part) → PartRefuses x → partIn (numbersOf 2 (saysPart x)) ≡ x
+part-back (part.Is size least) p = refl
+part-back (part.Refused x) p = rw (ne-eqb (x .number) 0 p)
 
 -- ---- a lookup
 abbrev pub LookedRefuses : Looked → Type 0

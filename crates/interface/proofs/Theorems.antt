@@ -3,7 +3,10 @@
 --     check-told           cuy_check
 --     scan-told            cuy_plain_scan
 --     independence-told    cuy_independence
+--     build-told           cuy_build
 --     lookup-told          cuy_lookup
+--     audit-told           cuy_audit
+--     report-told          cuy_report
 --     range-told           cuy_prefix_to_range
 --     prefixes-told        cuy_range_to_prefixes
 -- Assumes nothing.
@@ -29,8 +32,13 @@ use Rattle.lists.specs.Scan.{matchOf, scanOf, saysMatch}
 use Rattle.lists.specs.Independence.{paired, partnerOf, pairOf, independenceOf, saysPair}
 use Rattle.lists.specs.declared.scan.Match.the-variants as match
 use Rattle.lists.specs.declared.independence.Pair.the-variants as pair
+use Rattle.sorting.specs.Build.{buildFault, builtParts, buildOf, sameNumbers, auditOf, saysVerdict}
+use Rattle.sorting.specs.Report.{sizeOf, leastRule, reportFault, reportOf, saysPart}
 use Rattle.sorting.specs.Layout.{View}
 use Rattle.sorting.specs.Opening.{viewOf, openFault}
+use Rattle.sorting.specs.Table.{builtTable}
+use Rattle.sorting.specs.declared.audit.Verdict.the-variants as verdict
+use Rattle.sorting.specs.declared.report.Part.the-variants as part
 use Rattle.lookup.specs.Lookup.{visitOf, afterVisit, better, lookupFrom, searchOf, lookupOf}
 use Rattle.lookup.specs.declared.walk.Walked.{Walked}
 use Rattle.lookup.specs.declared.walk.Walked.the-variants.{Ran, Broken}
@@ -38,7 +46,7 @@ use Rattle.lookup.specs.declared.walk.Found.{Found}
 use Rattle.lookup.specs.declared.lookup.Looked.{Looked}
 use Rattle.lookup.specs.declared.lookup.Looked.the-variants as looked
 use Rattle.interface.specs.Answers.{numbersOf, saysInPlace}
-use Rattle.interface.proofs.Back.{Refuses, CountRefuses, countIn, count-back, BoundsRefuse, boundsIn, bounds-back, MatchRefuses, matchIn, match-back, PairRefuses, pairIn, pair-back, LookedRefuses, lookedIn, looked-back}
+use Rattle.interface.proofs.Back.{Refuses, CountRefuses, countIn, count-back, BoundsRefuse, boundsIn, bounds-back, MatchRefuses, matchIn, match-back, PairRefuses, pairIn, pair-back, VerdictRefuses, verdictIn, verdict-back, PartRefuses, partIn, part-back, LookedRefuses, lookedIn, looked-back}
 
 -- what holds of both holds of the one picked
 either : {A : Type 0} (P : A → Type 0) (t : Bool) (a b : A) → P a → P b → P (pick t a b)
@@ -80,6 +88,22 @@ independence-told R =
     (unless PairRefuses (listFault R) (pairOf R) (pair.Refused (listFault R))
     (either PairRefuses (ltb (paired R) (rulesIn R)) (pair.Both (paired R) (partnerOf R (paired R))) pair.Independent tt tt)
     (λ r. r))
+
+pub build-told : (R : Rules) (T : List ℕ) → countIn (numbersOf 1 (saysCount (buildOf R T))) ≡ buildOf R T
+build-told R T = count-back (buildOf R T) (counted (buildFault R T) (builtParts R))
+
+pub audit-told : (R : Rules) (T : List ℕ) → verdictIn (numbersOf 1 (saysVerdict (auditOf R T))) ≡ auditOf R T
+audit-told R T =
+    verdict-back (auditOf R T)
+    (unless VerdictRefuses (buildFault R T) (pick (sameNumbers T (builtTable R)) verdict.Yes verdict.No) (verdict.Refused (buildFault R T))
+    (either VerdictRefuses (sameNumbers T (builtTable R)) verdict.Yes verdict.No tt tt)
+    (λ r. r))
+
+pub report-told : (R : Rules) (T : List ℕ) (q : ℕ) → partIn (numbersOf 2 (saysPart (reportOf R T q))) ≡ reportOf R T q
+report-told R T q =
+    let v = viewOf R T in
+    part-back (reportOf R T q)
+    (unless PartRefuses (reportFault R T q) (part.Is (sizeOf v q) (leastRule (rulesIn R) v q)) (part.Refused (reportFault R T q)) tt (λ r. r))
 
 -- a broken partition is refused with 6
 visited : (w : Walked) (next : Found → ℕ → Looked) → ((x : Found) (u : ℕ) → LookedRefuses (next x u)) → LookedRefuses (afterVisit w next)

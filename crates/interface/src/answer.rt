@@ -5,11 +5,13 @@ use lookup::lookup::Looked;
 use ranges::prefix::Bounds;
 use ranges::refusal::Count;
 use sorting::audit::Verdict;
+use sorting::report::Part;
 ghost use Rattle.ranges.specs.Refusals.{saysCount};
 ghost use Rattle.ranges.specs.Prefixes.{saysBounds};
 ghost use Rattle.lists.specs.Scan.{saysMatch};
 ghost use Rattle.lists.specs.Independence.{saysPair};
 ghost use Rattle.sorting.specs.Build.{saysVerdict};
+ghost use Rattle.sorting.specs.Report.{saysPart};
 ghost use Rattle.interface.specs.Answers.{Told, saysInPlace};
 
 // Writes what is counted, and gives the refusal number.
@@ -119,6 +121,22 @@ pub(crate) fn put_verdict(verdict: Verdict, answer: &mut [u64; 4]) -> u32
         }
         Verdict::Refused(x) => {
             *answer = [x.number as u64, x.at as u64, x.then as u64, 0];
+            x.number
+        }
+    }
+}
+
+// Writes a partition's size and smallest rule number, and gives the refusal number.
+pub(crate) fn put_part(part: Part, answer: &mut [u64; 5]) -> u32
+    ensures { λ r. ⌜ Told 2 (saysPart part) r (now (answer .exit)) ⌝ }
+{
+    match part {
+        Part::Is { size, least } => {
+            *answer = [0, 0, 0, size as u64, least as u64];
+            0
+        }
+        Part::Refused(x) => {
+            *answer = [x.number as u64, x.at as u64, x.then as u64, 0, 0];
             x.number
         }
     }

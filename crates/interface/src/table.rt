@@ -1,14 +1,17 @@
 // Tables: build, lookup, audit, report.
 use crate::answer::put_count;
 use crate::answer::put_looked;
+use crate::answer::put_part;
 use crate::answer::put_verdict;
 use lists::shape::Shape;
 use lookup::lookup::lookup;
 use sorting::audit::audit;
 use sorting::build::build;
+use sorting::report::report;
 ghost use mathlib.Core.Path.{_≡_};
 ghost use Rattle.ranges.specs.Refusals.{saysCount};
 ghost use Rattle.sorting.specs.Build.{buildOf, tableAfter, auditOf, saysVerdict};
+ghost use Rattle.sorting.specs.Report.{reportOf, saysPart};
 ghost use Rattle.lookup.specs.Lookup.{lookupOf};
 ghost use Rattle.interface.specs.Answers.{Told, rulesOf, saysInPlace};
 
@@ -42,4 +45,18 @@ pub extern "C" fn cuy_audit(d: usize, list: &[u32], table: &[u16], answer: &mut 
     ensures { λ r. ⌜ Told 1 (saysVerdict (auditOf (rulesOf d (now (list .entry))) (now (table .entry)))) r (now (answer .exit)) ⌝ }
 {
     put_verdict(audit(Shape { d }, list, table), answer)
+}
+
+// Reports on a partition of a table: answers its size and its smallest rule number, worked out by reading its places.
+#[no_mangle]
+pub extern "C" fn cuy_report(
+    d: usize,
+    list: &[u32],
+    table: &[u16],
+    partition: usize,
+    answer: &mut [u64; 5],
+) -> u32
+    ensures { λ r. ⌜ Told 2 (saysPart (reportOf (rulesOf d (now (list .entry))) (now (table .entry)) partition)) r (now (answer .exit)) ⌝ }
+{
+    put_part(report(Shape { d }, list, table, partition), answer)
 }

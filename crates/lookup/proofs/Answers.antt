@@ -1,62 +1,36 @@
 -- What a lookup answers, whatever the table: a rule returned is one of the list and fits the header.
--- A walk names a rule only at field d, where it is held against the header (`Arrivals.antt`); the smallest candidate of several is one
--- of them.
---     walk-fits, visit-fits            of a walk, and of a partition
+-- A walk names only such a rule (`Named.antt`), and the smallest candidate of several is one of them.
+--     visit-fits                       of a partition
 --     rule-fits                        of a lookup
 -- Assumes nothing.
-use Prim.Native.Nat.{ℕ, zero, suc, _+_, min, _<_, _≤_}
+use Prim.Native.Nat.{ℕ, zero, suc, _+_, min, _<_}
 use mathlib.Core.Bool.{Bool, true, false}
 use mathlib.Core.List.{List}
 use mathlib.Core.Path.{_≡_, refl, sym, ap, _∙_, subst}
 use native.Mathlib.Omega.{arith}
-use lib.Dec.{ltb, eqb}
-use borrow.Author.Tests.{ltb-true, ltb-false, eqb-true}
+use lib.Dec.{ltb}
+use borrow.Author.Tests.{ltb-true, ltb-false}
 use Rattle.ranges.specs.Numbers.{pick}
-use Rattle.ranges.specs.Refusals.{refused, stands, BrokenTable}
+use Rattle.ranges.specs.Refusals.{stands}
 use Rattle.ranges.proofs.Numbers.{never}
 use Rattle.lists.specs.Rules.{Rules, rulesIn}
 use Rattle.lists.specs.FirstMatch.{fits}
 use Rattle.sorting.specs.Layout.{View}
 use Rattle.sorting.specs.Opening.{viewOf, openFault}
 use Rattle.lookup.specs.Walk.{arrivedOf, walkFrom}
-use Rattle.lookup.specs.Lookup.{visitOf, better, afterVisit, answerOf, lookupFrom, searchOf, lookupOf}
+use Rattle.lookup.specs.Lookup.{visitOf, better, afterVisit, lookupFrom, searchOf, lookupOf}
 use Rattle.lookup.specs.declared.walk.Found.{Found}
 use Rattle.lookup.specs.declared.walk.Found.the-variants.{Hit, Miss}
 use Rattle.lookup.specs.declared.walk.Walked.{Walked}
 use Rattle.lookup.specs.declared.walk.Walked.the-variants.{Ran, Broken}
-use Rattle.lookup.specs.declared.lookup.Looked.{Looked}
 use Rattle.lookup.specs.declared.lookup.Looked.the-variants.{Rule, Nothing, Refused}
-use Rattle.lookup.proofs.Arrivals.{arrived}
-use Rattle.lookup.proofs.Walks.{walk-holds}
+use Rattle.lookup.proofs.Named.{Matches, walk-fits}
 use Rattle.lookup.proofs.Visits.{visited-walks}
 
--- rule i is one of the list and fits the header
-pub record Matches (R : Rules) (h : List ℕ) (i : ℕ) : Type 0 where
-  pub rule : i < rulesIn R
-  pub fit : fits R h i ≡ true
-
--- ---- a walk, and a partition
+-- ---- a partition
 module _ (R : Rules) (v : View) (h : List ℕ) where
-  -- w, if it names a rule, names one that matches
-  abbrev Names : ℕ → ℕ → ℕ → ℕ → Walked → Type 0
-  Names s e f t w = (i u : ℕ) → w ≡ Ran (Hit i) u → Matches R h i
-
-  named : (s e f t : ℕ) → Names s e f t (arrivedOf R v h s e t)
-  named s e f t i u is =
-      let a = arrived R v h s e t (Hit i) u is in
-      let is-i : i ≡ v .order s = cc (a .found) in
-      subst (Matches R h) (sym is-i) record { rule = a .rule; fit = a .fit }
-
-  pub walk-fits : (k s e f t i u : ℕ) → walkFrom R v h k s e f t ≡ Ran (Hit i) u → Matches R h i
-  walk-fits =
-      walk-holds R v h Names
-      (λ s e f t i u is. never (cc))
-      (λ s e f t le i u is. never (cc))
-      (λ s e f t lt at-end. named s e f t)
-      (λ s e f t lt in-row s′ e′ f′ step w rest. rest)
-
   pub visit-fits : (q i u : ℕ) → visitOf R v h q ≡ Ran (Hit i) u → Matches R h i
-  visit-fits q i u is = walk-fits _ _ _ _ _ i u (visited-walks R v h q (Hit i) u is .walks)
+  visit-fits q i u is = walk-fits R v h _ _ _ _ _ i u (visited-walks R v h q (Hit i) u is .walks)
 
   -- ---- all partitions: the smallest candidate so far, if there is one, matches
   pub sooner-fits : (best : ℕ) (x : Found) → (best < rulesIn R → Matches R h best) → ((i : ℕ) → x ≡ Hit i → Matches R h i)

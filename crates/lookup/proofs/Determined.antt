@@ -7,13 +7,15 @@ use Prim.Native.Nat.{ℕ}
 use mathlib.Core.List.{List, [], _∷_}
 use mathlib.Core.Path.{_≡_, refl, sym, ap, _∙_}
 use Rattle.ranges.specs.declared.refusal.Refusal.{Refusal}
-use Rattle.lists.specs.Rules.{Rules}
-use Rattle.lookup.specs.Lookup.{lookupOf, saysLooked}
+use Rattle.ranges.proofs.OneAnswer.{OneAnswer}
+use Rattle.lookup.specs.Lookup.{saysLooked}
+use Rattle.lookup.proofs.lookup.lookup.Kinds as lookup-kinds
+use Rattle.lookup.proofs.lookup.lookup.Reads as lookup
 use Rattle.lookup.specs.declared.lookup.Looked.{Looked}
 use Rattle.lookup.specs.declared.lookup.Looked.the-variants.{Rule, Nothing, Refused}
 
-pub lookup-one : (R : Rules) (T h : List ℕ) (a b : Looked) → a ≡ lookupOf R T h → b ≡ lookupOf R T h → a ≡ b
-lookup-one R T h a b is-a is-b = is-a ∙ sym is-b
+pub lookup-one : OneAnswer 2 lookup-kinds.ps lookup-kinds.r lookup.Learnt
+lookup-one κs a x y e g p q = p ∙ sym q
 
 -- the answer that says so: how many numbers are answered tells the cases apart
 abbrev heard : Refusal → List ℕ → Looked

@@ -1,10 +1,10 @@
 -- Laws of a partition visited and of all of them in order (`specs/Lookup.antt`).
 --     visit-none, visit-past, visit-walks      no place; an end past n; the walk
---     visit-few                                a partition's tests are at most 18
+--     visit-few, told-few                      a partition's tests are at most 18
 --     from-none, from-broken, from-on          no partition left; a broken one; one visited
 --     Visited, visited-..                      what `visit_all` keeps at its loop's head, its turn and its ways out
 -- Assumes nothing.
-use Prim.Native.Nat.{ℕ, zero, suc, _+_, _-_, _*_, min, _≤_, _<_}
+use Prim.Native.Nat.{ℕ, suc, _+_, _-_, _*_, min, _≤_, _<_}
 use mathlib.Core.Bool.{Bool, true, false}
 use mathlib.Core.List.{List}
 use mathlib.Core.Path.{_≡_, refl, sym, ap, _∙_}
@@ -17,16 +17,17 @@ use Rattle.ranges.specs.Refusals.{refused, BrokenTable}
 use Rattle.ranges.proofs.Numbers.{never}
 use Rattle.lists.specs.Rules.{Rules, fieldsOf, rulesIn}
 use Rattle.sorting.specs.Layout.{View}
-use Rattle.sorting.specs.Opening.{partStands}
 use Rattle.lookup.specs.Walk.{walkFrom}
-use Rattle.lookup.specs.Lookup.{visitOf, better, afterVisit, answerOf, lookupFrom}
+use Rattle.lookup.specs.Packed.{packed, unpacked}
+use Rattle.lookup.specs.Lookup.{visitOf, better, answerOf, lookupFrom}
 use Rattle.lookup.specs.declared.walk.Found.{Found}
 use Rattle.lookup.specs.declared.walk.Found.the-variants.{Hit, Miss}
 use Rattle.lookup.specs.declared.walk.Walked.{Walked}
 use Rattle.lookup.specs.declared.walk.Walked.the-variants.{Ran, Broken}
-use Rattle.lookup.specs.declared.lookup.Looked.{Looked}
 use Rattle.lookup.specs.declared.lookup.Looked.the-variants.{Rule, Nothing, Refused}
 use Rattle.lookup.proofs.Counts.{walk-few-18}
+use Rattle.lookup.proofs.Named.{walk-fits}
+use Rattle.lookup.proofs.Packing.{Small, packed-back}
 
 -- ---- a partition
 module _ (R : Rules) (v : View) (h : List ℕ) (q : ℕ) where
@@ -67,6 +68,10 @@ module _ (R : Rules) (v : View) (h : List ℕ) (q : ℕ) where
       let few : v .start (suc q) ≤ 1024 = omega arith in
       walk-few-18 R v h (suc (rulesIn R + fieldsOf R)) (v .start q) (v .start (suc q)) (w .some) few few-fields x u (w .walks)
 
+  -- where a callee told what the visit is
+  pub told-few : rulesIn R ≤ 1024 → fieldsOf R ≤ 8 → (w : Walked) (x : Found) (u : ℕ) → w ≡ visitOf R v h q → w ≡ Ran x u → u ≤ 18
+  told-few few-rules few-fields w x u is-w is = visit-few few-rules few-fields x u (sym is-w ∙ is)
+
 -- as the code works it out: s and e are the starts of q and of the next
 module _ (R : Rules) (v : View) (h : List ℕ) (n q s e : ℕ) (is-n : n ≡ rulesIn R) (is-s : s ≡ v .start q) (is-e : e ≡ v .start (q + 1)) where
   next : e ≡ v .start (suc q)
@@ -82,10 +87,22 @@ module _ (R : Rules) (v : View) (h : List ℕ) (n q s e : ℕ) (is-n : n ≡ rul
     pub by-past : n < e → visitOf R v h q ≡ Broken
     by-past past = visit-past R v h q some-places (omega (arith, next))
 
-    pub by-walk : e ≤ n → (w : Walked) → ((k : ℕ) → (e - s) + (fieldsOf R - 0) < k → w ≡ walkFrom R v h k s e 0 0) → w ≡ visitOf R v h q
-    by-walk le w walked =
+    -- c is what the walk answered, as one number, and w what it stands for
+    pub by-walk : e ≤ n → n ≤ 1024 → fieldsOf R ≤ 8 → (c : ℕ) → ((k : ℕ) → (e - s) + (fieldsOf R - 0) < k → c ≡ packed (walkFrom R v h k s e 0 0))
+        → (w : Walked) → w ≡ unpacked c → w ≡ visitOf R v h q
+    by-walk le few-rules few-fields c walked w is-w =
         let within : v .start (suc q) ≤ rulesIn R = omega (arith, next) in
-        walked (suc (rulesIn R + fieldsOf R)) (omega arith)
+        let k = suc (rulesIn R + fieldsOf R) in
+        let few : e ≤ 1024 = omega arith in
+        let small : Small (walkFrom R v h k s e 0 0) =
+        record {
+          few-tests = λ x u is. let le-18 : u ≤ 18 = walk-few-18 R v h k s e some few few-fields x u is in omega arith;
+          few-rules = λ i u is. let lt : i < rulesIn R = walk-fits R v h k s e 0 0 i u is .rule in omega arith;
+        }
+        in
+        is-w
+        ∙ ap unpacked (walked k (omega arith))
+        ∙ packed-back (walkFrom R v h k s e 0 0) small
         ∙ rw (is-s, next) (sym (visit-walks R v h q some-places within))
 
 -- ---- all partitions in order
@@ -118,8 +135,9 @@ visited-none R v h n b =
     }
 
 module _ {R : Rules} {v : View} {h : List ℕ} {n b q best t : ℕ} (seen : Visited R v h n b q best t) where
-  pub visited-broken : q < b → visitOf R v h q ≡ Broken → lookupFrom R v h b 0 n 0 ≡ Refused (refused BrokenTable)
-  visited-broken lt is = seen .rest (suc (b - q - 1)) (omega arith) ∙ from-broken R v h (b - q - 1) q best t is
+  -- w is what a callee told of the visit
+  pub visited-broken : q < b → (w : Walked) → w ≡ visitOf R v h q → w ≡ Broken → lookupFrom R v h b 0 n 0 ≡ Refused (refused BrokenTable)
+  visited-broken lt w is-w is = seen .rest (suc (b - q - 1)) (omega arith) ∙ from-broken R v h (b - q - 1) q best t (sym is-w ∙ is)
 
   pub visited-all : b ≤ q → lookupFrom R v h b 0 n 0 ≡ answerOf R best t
   visited-all le = seen .rest 0 (omega (arith, seen .in-order)) ∙ from-none R v h q best t
@@ -134,19 +152,22 @@ module _ {R : Rules} {v : View} {h : List ℕ} {n b q best t : ℕ} (seen : Visi
       }
 
   -- the same, by what was found
-  module _ (few-rules : rulesIn R ≤ 1024) (few-fields : fieldsOf R ≤ 8) (lt : q < b) (x : Found) (u : ℕ) (is : visitOf R v h q ≡ Ran x u) where
+  module _ (few-rules : rulesIn R ≤ 1024) (few-fields : fieldsOf R ≤ 8) (lt : q < b) (w : Walked) (x : Found) (u : ℕ) (is-w : w ≡ visitOf R v h q) (is : w ≡ Ran x u) where
+    pub visited-found : (y : Found) → x ≡ y → Visited R v h n b (q + 1) (better best y) (t + u)
+    visited-found y is-x = visited-more few-rules few-fields lt y u (sym is-w ∙ is ∙ ap (λ z. Ran z u) is-x)
+
     pub visited-miss : x ≡ Miss → Visited R v h n b (q + 1) best (t + u)
-    visited-miss is-x = visited-more few-rules few-fields lt Miss u (is ∙ ap (λ y. Ran y u) is-x)
+    visited-miss = visited-found Miss
 
     pub visited-sooner : (i : ℕ) → x ≡ Hit i → i < best → Visited R v h n b (q + 1) i (t + u)
     visited-sooner i is-x less =
         let first : min best i ≡ i = omega arith in
-        rw first at (visited-more few-rules few-fields lt (Hit i) u (is ∙ ap (λ y. Ran y u) is-x))
+        rw first at (visited-found (Hit i) is-x)
 
     pub visited-later : (i : ℕ) → x ≡ Hit i → best ≤ i → Visited R v h n b (q + 1) best (t + u)
     visited-later i is-x le =
         let first : min best i ≡ best = omega arith in
-        rw first at (visited-more few-rules few-fields lt (Hit i) u (is ∙ ap (λ y. Ran y u) is-x))
+        rw first at (visited-found (Hit i) is-x)
 
   -- all are visited: a match, or none
   pub visited-match : b ≤ q → n ≡ rulesIn R → best < n → lookupFrom R v h b 0 n 0 ≡ Rule best t

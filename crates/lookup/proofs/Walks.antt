@@ -7,7 +7,7 @@
 use Prim.Native.Nat.{ℕ, zero, suc, _+_, _≤_, _<_}
 use mathlib.Core.Bool.{Bool, true, false}
 use mathlib.Core.List.{List}
-use mathlib.Core.Path.{_≡_, refl, sym, _∙_}
+use mathlib.Core.Path.{_≡_, refl, sym, ap, _∙_}
 use native.Mathlib.Omega.{arith}
 use lib.Dec.{leb}
 use borrow.Author.Tests.{le-leb, lt-leb, leb-true, leb-false}
@@ -15,6 +15,7 @@ use Rattle.ranges.specs.Numbers.{pick}
 use Rattle.lists.specs.Rules.{Rules, fieldsOf}
 use Rattle.sorting.specs.Layout.{View}
 use Rattle.lookup.specs.Walk.{stepOf, afterStep, arrivedOf, walkFrom}
+use Rattle.lookup.specs.Packed.{packed}
 use Rattle.lookup.specs.declared.walk.Found.the-variants.{Miss}
 use Rattle.lookup.specs.declared.walk.Walked.{Walked}
 use Rattle.lookup.specs.declared.walk.Walked.the-variants.{Ran, Broken}
@@ -40,28 +41,31 @@ module _ (R : Rules) (v : View) (h : List ℕ) (k s e f t : ℕ) where
     walk-on s′ e′ f′ is = rw (lt-leb e s some, lt-leb (fieldsOf R) f in-row, is)
 
 -- the same for every number of tests that is enough, as the code's contract has it: more than m, group size plus remaining fields
-module _ (R : Rules) (v : View) (h : List ℕ) (s e f t m : ℕ) (w : Walked) where
-  -- w is what the walk answers
+module _ (R : Rules) (v : View) (h : List ℕ) (s e f t m c : ℕ) where
+  -- c is what the walk answers, as one number
   abbrev Answers : Type 0
-  Answers = (k : ℕ) → m < k → w ≡ walkFrom R v h k s e f t
+  Answers = (k : ℕ) → m < k → c ≡ packed (walkFrom R v h k s e f t)
 
-  pub every-empty : e ≤ s → w ≡ Ran Miss t → Answers
+  pub every-empty : e ≤ s → c ≡ packed (Ran Miss t) → Answers
   every-empty none is zero lt = absurd (omega arith)
-  every-empty none is (suc k) lt = is ∙ sym (walk-empty R v h k s e f t none)
+  every-empty none is (suc k) lt = is ∙ ap packed (sym (walk-empty R v h k s e f t none))
 
-  pub every-arrives : s < e → fieldsOf R ≤ f → w ≡ arrivedOf R v h s e t → Answers
-  every-arrives some at-end is zero lt = absurd (omega arith)
-  every-arrives some at-end is (suc k) lt = is ∙ sym (walk-arrives R v h k s e f t some at-end)
+  -- w is what a callee told of the end
+  pub every-arrives : s < e → fieldsOf R ≤ f → (w : Walked) → w ≡ arrivedOf R v h s e t → c ≡ packed w → Answers
+  every-arrives some at-end w is-w is zero lt = absurd (omega arith)
+  every-arrives some at-end w is-w is (suc k) lt = is ∙ ap packed (is-w ∙ sym (walk-arrives R v h k s e f t some at-end))
 
   module _ (some : s < e) (in-row : f < fieldsOf R) where
-    pub every-breaks : stepOf R v h s e f ≡ Fault → w ≡ Broken → Answers
-    every-breaks step is zero lt = absurd (omega arith)
-    every-breaks step is (suc k) lt = is ∙ sym (walk-breaks R v h k s e f t some in-row step)
+    -- x is what a callee told of the step
+    pub every-breaks : (x : Step) → x ≡ stepOf R v h s e f → x ≡ Fault → c ≡ packed Broken → Answers
+    every-breaks x is-x step is zero lt = absurd (omega arith)
+    every-breaks x is-x step is (suc k) lt = is ∙ ap packed (sym (walk-breaks R v h k s e f t some in-row (sym is-x ∙ step)))
 
-    pub every-on : (s′ e′ f′ m′ : ℕ) → stepOf R v h s e f ≡ On s′ e′ f′ → m′ < m
-        → ((k : ℕ) → m′ < k → w ≡ walkFrom R v h k s′ e′ f′ (t + 1)) → Answers
-    every-on s′ e′ f′ m′ step falls rest zero lt = absurd (omega arith)
-    every-on s′ e′ f′ m′ step falls rest (suc k) lt = rest k (omega arith) ∙ sym (walk-on R v h k s e f t some in-row s′ e′ f′ step)
+    pub every-on : (x : Step) (s′ e′ f′ m′ : ℕ) → x ≡ stepOf R v h s e f → x ≡ On s′ e′ f′ → m′ < m
+        → ((k : ℕ) → m′ < k → c ≡ packed (walkFrom R v h k s′ e′ f′ (t + 1))) → Answers
+    every-on x s′ e′ f′ m′ is-x step falls rest zero lt = absurd (omega arith)
+    every-on x s′ e′ f′ m′ is-x step falls rest (suc k) lt =
+        rest k (omega arith) ∙ ap packed (sym (walk-on R v h k s e f t some in-row s′ e′ f′ (sym is-x ∙ step)))
 
 -- ---- what holds of every walk
 -- P says something of a walk's places s to before e, field f and tests t, and of what it answers

@@ -6,25 +6,23 @@
 --     audit-yes, audit-no                      the answers
 -- Assumes nothing.
 use Prim.Native.Nat.{ℕ, _*_, _≤_, _<_}
-use mathlib.Core.Bool.{Bool, true, false}
+use mathlib.Core.Bool.{true, false}
 use mathlib.Core.List.{List, _++_}
-use mathlib.Core.Path.{_≡_, refl, sym, ap, _∙_, subst}
+use mathlib.Core.Path.{_≡_, sym, ap, _∙_}
 use native.Mathlib.Omega.{arith}
 use native.Mathlib.Nat.{mul-le-mul}
 use lib.ListN.{length, getD, take, replicate, length-append, length-replicate}
 use lib.Seq.{take-at, length-take-le, ext-getD}
 use lib.Dec.{eqb}
 use borrow.Author.Tests.{eq-eqb, ne-eqb, eqb-true}
-use Rattle.ranges.specs.Numbers.{pick, all}
 use Rattle.ranges.specs.declared.refusal.Refusal.{Refusal}
 use Rattle.ranges.proofs.Numbers.{all-yes, all-at, all-no}
-use Rattle.lists.specs.Rules.{Rules, fieldsOf, rulesIn, Shaped}
-use Rattle.sorting.specs.Layout.{TableFor, tableLength}
+use Rattle.lists.specs.Rules.{Rules, fieldsOf, rulesIn}
+use Rattle.sorting.specs.Layout.{tableLength}
 use Rattle.sorting.specs.Table.{builtTable}
 use Rattle.sorting.specs.Asked.{Buildable}
 use Rattle.sorting.specs.Build.{buildFault, sameNumbers, auditOf}
-use Rattle.sorting.specs.declared.audit.Verdict.{Verdict}
-use Rattle.sorting.specs.declared.audit.Verdict.the-variants.{Yes, No, Refused}
+use Rattle.sorting.specs.declared.audit.Verdict.the-variants.{Yes, No}
 use Rattle.sorting.proofs.Sound.{list-shaped}
 use Rattle.sorting.proofs.Reading.{table-sized}
 

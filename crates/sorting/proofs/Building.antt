@@ -2,32 +2,33 @@
 --     fault-list, fault-length, fault-none           1 to 4, 5, none of them
 --     by-list, by-shape, by-length, by-fine          the same, as the code works it out
 --     buildable                                      a list and a table that meet none of them
---     room, room-run, chosen-front, chosen-laying    room for 1,024 partition numbers, of which the first n are chosen
---     built-refused, built-written                   what a build answers and leaves
+--     room, room-long, room-run                      room for 1,024 partition numbers
+--     front-run, front-count, chosen-laying, chosen-written      of which the first n are chosen
+--     built-refused, built-fine, built-written       what a build answers and leaves
+--     list-few, five-how                             which number a refusal has
 -- Assumes nothing.
 use Prim.Native.Nat.{ℕ, _≤_}
 use mathlib.Core.Bool.{Bool, true, false}
 use mathlib.Core.List.{List, _++_}
-use mathlib.Core.Path.{_≡_, refl, sym, ap, _∙_, subst}
+use mathlib.Core.Path.{_≡_, refl, sym, ap, _∙_}
 use native.Mathlib.Omega.{arith}
 use lib.ListN.{length, take, replicate, length-append, length-replicate}
 use lib.Seq.{take-at, length-take-le}
-use lib.Dec.{eqb}
-use borrow.Author.Tests.{eq-eqb, ne-eqb, eqb-true}
-use Rattle.ranges.specs.Numbers.{pick}
-use Rattle.ranges.specs.Refusals.{none, refused, orElse, stands, BadTableLength}
+use lib.Dec.{ltb, eqb}
+use borrow.Author.Tests.{eq-eqb, ne-eqb, eqb-true, eqb-false}
+use Rattle.ranges.specs.Numbers.{pick, least}
+use Rattle.ranges.specs.Refusals.{none, refused, refusedAt, stands, LowAboveHigh, BadTableLength}
 use Rattle.ranges.specs.declared.refusal.Refusal.{Refusal}
-use Rattle.ranges.specs.declared.refusal.Count.{Count}
 use Rattle.ranges.specs.declared.refusal.Count.the-variants.{Is, Refused}
 use Rattle.ranges.proofs.Numbers.{true-not-false}
-use Rattle.lists.specs.Rules.{Rules, fieldsOf, rulesIn, Shaped}
-use Rattle.lists.specs.Faults.{listFault}
-use Rattle.sorting.specs.FirstFit.{firstFit, parts, Choice, Chosen}
-use Rattle.sorting.specs.Layout.{TableFor, tableLength}
-use Rattle.sorting.specs.Opening.{tableFault}
+use Rattle.lists.specs.Rules.{Rules, fieldsOf, rulesIn, isVoid, Shaped}
+use Rattle.lists.specs.Faults.{shapeFault, badRule, endsFault, listFault}
+use Rattle.lists.proofs.Faults.{shape-few}
+use Rattle.sorting.specs.FirstFit.{firstFit, Chosen}
+use Rattle.sorting.specs.Layout.{tableLength}
 use Rattle.sorting.specs.Table.{tableOf, builtTable}
-use Rattle.sorting.specs.Asked.{RunFor, Dealt, Laying, Buildable}
-use Rattle.sorting.specs.Build.{buildFault, builtParts, buildOf, tableAfter, Built}
+use Rattle.sorting.specs.Asked.{RunFor, Laying, Buildable}
+use Rattle.sorting.specs.Build.{buildFault, builtParts, Built}
 use Rattle.sorting.proofs.Sound.{list-shaped}
 use Rattle.sorting.proofs.FirstFits.{first-fit-length, first-fit-choice}
 
@@ -140,3 +141,28 @@ module _ (R : Rules) (T : List ℕ) (x : Refusal) (is-x : x ≡ buildFault R T) 
         answers = rw (← is-x, eq-eqb (x .number) 0 z) (ap Is is-b);
         leaves = rw (← is-x, eq-eqb (x .number) 0 z) is-after;
       }
+
+-- ---- which number a refusal has
+-- a list is refused by 1 to 4 alone
+pub list-few : (R : Rules) → listFault R .number ≤ 4
+unfolding endsFault
+list-few R = go (stands (shapeFault R)) (ltb (badRule R) (rulesIn R))
+  where
+    go : (s t : Bool)
+        → (pick s (pick t (refusedAt LowAboveHigh (badRule R) (least (fieldsOf R) (isVoid R (badRule R)))) none) (shapeFault R)) .number ≤ 4
+    go true true = omega arith
+    go true false = omega arith
+    go false t = omega (arith, shape-few R)
+
+-- 5 is given where the list is fine and the table is not
+pub five-how : (R : Rules) (T : List ℕ) → buildFault R T .number ≡ 5
+    → (listFault R .number ≡ 0) × (length T ≡ tableLength (rulesIn R) (fieldsOf R) → ⊥)
+unfolding buildFault
+five-how R T = go (stands (listFault R)) refl (eqb (length T) (tableLength (rulesIn R) (fieldsOf R))) refl
+  where
+    go : (a : Bool) → stands (listFault R) ≡ a → (e : Bool) → eqb (length T) (tableLength (rulesIn R) (fieldsOf R)) ≡ e
+        → (pick a (pick e none (refused BadTableLength)) (listFault R)) .number ≡ 5
+        → (listFault R .number ≡ 0) × (length T ≡ tableLength (rulesIn R) (fieldsOf R) → ⊥)
+    go false p e q z = absurd (omega (arith, list-few R))
+    go true p true q z = absurd (omega arith)
+    go true p false q z = (eqb-true (listFault R .number) 0 p, eqb-false (length T) (tableLength (rulesIn R) (fieldsOf R)) q)

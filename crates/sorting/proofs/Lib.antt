@@ -9,6 +9,11 @@
 -- Laid: the parts of a table, written one after the other, are the whole table.
 -- Building: which of 1 to 5 a list and a table meet, and what is written where they meet none.
 -- Auditing: two runs with the same numbers, and the answer of an audit.
+-- Reporting: the report on a partition, as the code works it out.
+-- Reports: what a report says of the table of any choice of partitions.
+-- Answers: what an audit's and a report's answers say tells them apart.
+-- Theorems: what a reader may rely on.
+-- Determined: every contract allows one result alone.
 -- Offsets: every part of a table lies within it.
 -- Opening: which refusal an opening meets, and what a table is that opens.
 -- Sound: a list with low ≤ high everywhere.
@@ -33,6 +38,7 @@ pub mod RowByRow
 pub mod Laid
 pub mod Building
 pub mod Auditing
+pub mod Reporting
 pub mod Offsets
 pub mod Opening
 pub mod Sound
@@ -47,3 +53,7 @@ pub mod Kept
 pub mod FirstFits
 pub mod Built
 pub mod Cases
+pub mod Answers
+pub mod Reports
+pub mod Theorems
+pub mod Determined

@@ -22,7 +22,7 @@ use Rattle.lists.specs.Faults.{shapeFault}
 use Rattle.lists.proofs.Faults.{shaped}
 use Rattle.sorting.specs.Layout.{View, view, TableFor, tableLength, startAt}
 use Rattle.sorting.proofs.Offsets.{opening-inside, start-inside}
-use Rattle.sorting.specs.Opening.{opening, viewOf, tableFault, openFault}
+use Rattle.sorting.specs.Opening.{opening, viewOf, openFault}
 
 -- ---- what is read of a table of the right length
 module _ {n d : ℕ} {T : List ℕ} (sized : TableFor n d T) where

@@ -5,11 +5,10 @@
 --     Seeking, seeking-none, seeking-more, seeking-hit, seeking-end       the search for a partition without the stamp
 --     stamped-fit, stamped-long, stamped-fresh                it is first fit's; and the stamps are ready for the next rule
 -- Assumes nothing.
-use Prim.Native.Nat.{ℕ, zero, suc, _+_, _≤_, _<_}
+use Prim.Native.Nat.{ℕ, suc, _+_, _≤_, _<_}
 use mathlib.Core.Bool.{Bool, true, false, not}
 use mathlib.Core.List.{List}
-use mathlib.Core.Path.{_≡_, refl, sym, ap, _∙_, subst}
-use mathlib.Core.Logic.{⊎-elim}
+use mathlib.Core.Path.{_≡_, refl, sym, ap, _∙_}
 use native.Mathlib.Omega.{arith}
 use native.Mathlib.Numerals.{add-one}
 use borrow.Author.Count.{below-none, below-more}
@@ -17,9 +16,9 @@ use borrow.Author.Tests.{eq-eqb, ne-eqb, eqb-true, eqb-false, ltb-true, ltb-fals
 use lib.Dec.{ltb, eqb}
 use lib.ListN.{length, getD, set, length-set, List·getD-eq-default}
 use lib.Seq.{getD-set-same, getD-set-other, ext-getD}
-use Rattle.ranges.specs.Numbers.{pick, _and_, all, least, tab}
-use Rattle.ranges.proofs.Numbers.{true-not-false, all-yes, least-is, least-none, least-under, least-le, tab-length, tab-at}
-use Rattle.lists.specs.Rules.{Rules, rulesIn, Shaped}
+use Rattle.ranges.specs.Numbers.{pick, _and_, all, tab}
+use Rattle.ranges.proofs.Numbers.{least-is, least-none, tab-length, tab-at}
+use Rattle.lists.specs.Rules.{Rules}
 use Rattle.sorting.proofs.Counting.{least-same}
 use Rattle.sorting.specs.Order.{clash}
 use Rattle.sorting.specs.FirstFit.{partOf, free, fitOf}

@@ -1,14 +1,14 @@
 -- What the crate's private functions ask of what they are handed. No public function asks anything: it refuses.
 -- Assumes nothing: these are definitions.
-use Prim.Native.Nat.{ℕ, _<_}
+use Prim.Native.Nat.{ℕ, suc, _≤_, _<_}
 use mathlib.Core.List.{List}
 use mathlib.Core.Path.{_≡_}
-use lib.ListN.{length}
+use lib.ListN.{length, getD}
 use Rattle.lists.specs.Rules.{Rules, fieldsOf, rulesIn, Shaped}
 use Rattle.lists.specs.Faults.{listFault}
 use Rattle.ranges.specs.Numbers.{tab}
 use Rattle.sorting.specs.FirstFit.{Choice, parts}
-use Rattle.sorting.specs.Layout.{TableFor}
+use Rattle.sorting.specs.Layout.{TableFor, orderAt, startAt}
 use Rattle.sorting.specs.Table.{ruleAt}
 
 -- field f of rule i, of a list whose shape stands
@@ -54,3 +54,16 @@ pub record Laying (R : Rules) (run : List ℕ) (b : ℕ) (T : List ℕ) : Type 0
 pub record Buildable (R : Rules) (T : List ℕ) : Type 0 where
   pub no-fault : listFault R .number ≡ 0
   pub sized : TableFor (rulesIn R) (fieldsOf R) T
+
+-- partition q of a table of at most 1,024 rules: its starts and its places stand in the table
+pub record PartOf (n : ℕ) (T : List ℕ) (q : ℕ) : Type 0 where
+  pub few-rules : n ≤ 1024
+  pub part : q < n
+  pub starts : (r : ℕ) → r ≤ n → startAt n r < length T
+  pub places : (p : ℕ) → p < n → orderAt p < length T
+
+-- the same, and its starts ascend and end within the n places
+pub record PartWithin (n : ℕ) (T : List ℕ) (q : ℕ) : Type 0 where
+  pub of : PartOf n T q
+  pub ascend : getD T (startAt n q) 0 < getD T (startAt n (suc q)) 0
+  pub within : getD T (startAt n (suc q)) 0 ≤ n

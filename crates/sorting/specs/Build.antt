@@ -11,10 +11,9 @@ use Rattle.ranges.specs.Numbers.{pick, all}
 use Rattle.ranges.specs.Refusals.{none, orElse, stands, countUnless, Said, saidOf}
 use Rattle.ranges.specs.declared.refusal.Refusal.{Refusal}
 use Rattle.ranges.specs.declared.refusal.Count.{Count}
-use Rattle.lists.specs.Rules.{Rules, fieldsOf, rulesIn}
+use Rattle.lists.specs.Rules.{Rules, rulesIn}
 use Rattle.lists.specs.Faults.{listFault}
 use Rattle.sorting.specs.FirstFit.{firstFit, parts}
-use Rattle.sorting.specs.Layout.{TableFor}
 use Rattle.sorting.specs.Opening.{tableFault}
 use Rattle.sorting.specs.Table.{builtTable}
 use Rattle.sorting.specs.declared.audit.Verdict.{Verdict}

@@ -10,7 +10,7 @@ use Rattle.ranges.specs.Numbers.{pick, _and_, all}
 use Rattle.ranges.specs.Refusals.{none, refused, orElse, stands, Said, saidOf, BrokenTable, NoSuchPartition}
 use Rattle.ranges.specs.declared.refusal.Refusal.{Refusal}
 use Rattle.lists.specs.Rules.{Rules, rulesIn}
-use Rattle.sorting.specs.Layout.{View}
+use Rattle.sorting.specs.Layout.{View, view}
 use Rattle.sorting.specs.Opening.{partStands, viewOf, openFault}
 use Rattle.sorting.specs.declared.report.Part.{Part}
 use Rattle.sorting.specs.declared.report.Part.the-variants.{Is, Refused}
@@ -20,26 +20,26 @@ unfoldable pub smallest : (ℕ → ℕ) → ℕ → ℕ → ℕ
 smallest g x zero = x
 smallest g x (suc m) = min (smallest g x m) (g m)
 
--- the rule at the place number k of those that begin at s
-abbrev pub ruleFrom : View → ℕ → ℕ → ℕ
-ruleFrom v s k = v .order (s + k)
+-- a table for n rules, read for its starts and its order alone: where they stand does not depend on d
+abbrev pub placesIn : ℕ → List ℕ → View
+placesIn n T = view n 0 T
 
 -- how many places partition q has
 abbrev pub sizeOf : View → ℕ → ℕ
 sizeOf v q = v .start (suc q) - v .start q
 
--- every rule number of the m places that begin at s is below n
-abbrev pub rulesStand : ℕ → View → ℕ → ℕ → Bool
-rulesStand n v s m = all m (λ k. ltb (ruleFrom v s k) n)
+-- every rule number of partition q is below n
+abbrev pub rulesStand : ℕ → View → ℕ → Bool
+rulesStand n v q = all (sizeOf v q) (λ k. ltb (v .order (v .start q + k)) n)
 
--- the smallest rule number of the m places that begin at s, each below n; n where there is no place
+-- the smallest rule number of partition q, where each is below n
 -- (of the bench table's partition 0, at places 0 to 2: 0)
-abbrev pub leastRule : ℕ → View → ℕ → ℕ → ℕ
-leastRule n v s m = smallest (ruleFrom v s) n m
+abbrev pub leastRule : ℕ → View → ℕ → ℕ
+leastRule n v q = smallest (λ k. v .order (v .start q + k)) n (sizeOf v q)
 
 -- 6 for partition q: its starts, then its rule numbers
-abbrev pub partFault : ℕ → View → ℕ → Refusal
-partFault n v q = pick (partStands n v q and rulesStand n v (v .start q) (sizeOf v q)) none (refused BrokenTable)
+unfoldable pub partFault : ℕ → View → ℕ → Refusal
+partFault n v q = pick (partStands n v q and rulesStand n v q) none (refused BrokenTable)
 
 -- 1, 2, 3, 5, 6 for the opening, 7, 6 for the partition
 unfoldable pub reportFault : Rules → List ℕ → ℕ → Refusal
@@ -51,7 +51,7 @@ reportFault R T q =
 abbrev pub reportOf : Rules → List ℕ → ℕ → Part
 reportOf R T q =
     pick (stands (reportFault R T q))
-    (Is (sizeOf (viewOf R T) q) (leastRule (rulesIn R) (viewOf R T) (viewOf R T .start q) (sizeOf (viewOf R T) q)))
+    (Is (sizeOf (viewOf R T) q) (leastRule (rulesIn R) (viewOf R T) q))
     (Refused (reportFault R T q))
 
 -- what the answer says in the paper's words

@@ -94,7 +94,7 @@ fn parts_in(run: &[u16]) -> u16
 }
 
 // Writes the first-fit partition number of each rule into run and returns how many partitions that opens.
-pub fn choose(shape: Shape, list: &[u32], run: &mut [u16]) -> u16
+pub(crate) fn choose(shape: Shape, list: &[u32], run: &mut [u16]) -> u16
     requires { ⌜ RunFor (listed shape (now list)) (now run) ⌝ }
     ensures { λ r. ⌜ Chosen (listed shape (now (list .entry))) (now (run .exit)) r ⌝ }
 {

@@ -10,7 +10,7 @@ ghost use Rattle.sorting.specs.Asked.{Buildable};
 ghost use Rattle.sorting.specs.Build.{builtParts};
 
 // Writes every number of the table for a list and a table that are not refused, and returns how many partitions there are.
-pub fn write_built(shape: Shape, list: &[u32], table: &mut [u16]) -> usize
+pub(crate) fn write_built(shape: Shape, list: &[u32], table: &mut [u16]) -> usize
     requires { ⌜ Buildable (listed shape (now list)) (now table) ⌝ }
     ensures { λ r. ⌜ (r ≡ builtParts (listed shape (now (list .entry)))) × (now (table .exit) ≡ builtTable (listed shape (now (list .entry)))) ⌝ }
 {

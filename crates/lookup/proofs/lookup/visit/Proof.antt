@@ -42,16 +42,21 @@ returns-2 c =
 walk-requires : tie.Need-walk-requires
 walk-requires c κs = search needs
 
+unpack-requires : tie.Need-unpack-requires
+unpack-requires c κs = search needs
+
 -- the walk
 returns-3 : tie.Need-returns-3
 returns-3 c =
-    let tests = c .before in
+    let walked = c .before in
+    let tests = walked .before .before .before in
     let next = tests .before .before in
     let first = next .before in
-    by-walk _ _ _ _ _ _ _ (first .before .before .before .pre .0 .rules) (first .start-of .ensures) (next .start-of2 .ensures) (tests .before .if1 .left)
-    (tests .if2 .left) _ (c .walk .ensures)
+    let lent = first .before .before .before .pre .0 in
+    by-walk _ _ _ _ _ _ _ (lent .rules) (first .start-of .ensures) (next .start-of2 .ensures) (tests .before .if1 .left) (tests .if2 .left) (lent .few-rules)
+    (lent .few-fields) _ (walked .walk .ensures) _ (c .unpack .ensures)
 
 pub visit-spec : {M : Type 1} → statement M
 visit-spec =
     tie.close
-    (tie.spec start-of-requires add-start-of start-of-requires-2 returns returns-2 walk-requires returns-3)
+    (tie.spec start-of-requires add-start-of start-of-requires-2 returns returns-2 walk-requires unpack-requires returns-3)

@@ -3,7 +3,6 @@
 use native.Mathlib.Omega.{arith}
 use borrow.Author.Needs.{needs}
 use mathlib.Core.Path.{sym, _∙_}
-use Rattle.lists.specs.Rules.{listed}
 use Rattle.sorting.proofs.Building.{by-list, by-shape, by-length, by-fine}
 use Rattle.sorting.proofs.build.build_fault.Statement.{statement}
 use Rattle.sorting.proofs.build.build_fault.Tie as tie

@@ -1,7 +1,7 @@
 -- `sorting::choose::choose` meets its contract. At the loop's head the first i rules have first fit's numbers (`Choosing`); the measure is what is left of n.
 -- Assumes nothing.
-use Prim.Native.Nat.{_-_, _<_, _≤_}
-use mathlib.Core.Path.{_≡_, sym, _∙_, subst}
+use Prim.Native.Nat.{_-_}
+use mathlib.Core.Path.{_≡_, sym, _∙_}
 use lib.Seq.{length-take-le}
 use Rattle.lists.specs.Rules.{listed, rulesIn}
 use Rattle.sorting.proofs.Choosing.{Choosing, choosing-none, choosing-marks, choosing-more, choosing-numbers, choosing-end}

@@ -1,6 +1,6 @@
 -- `sorting::choose::mark` meets its contract. At the loop's head rule i is held against the first j rules (`Stamping`); the measure is what is left of i.
 -- Assumes nothing.
-use Prim.Native.Nat.{_+_, _-_}
+use Prim.Native.Nat.{_-_}
 use Rattle.lists.specs.Rules.{listed}
 use Rattle.sorting.proofs.Stamps.{Stamping, part-few, stamping-none, stamping-more, stamping-end}
 use native.Mathlib.Omega.{arith}

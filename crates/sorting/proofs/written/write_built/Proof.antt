@@ -1,7 +1,6 @@
 -- `sorting::written::write_built` meets its contract: the run is first fit's, and the table is laid out with it (`Building.antt`).
 -- Assumes nothing.
 use borrow.Author.Needs.{needs}
-use mathlib.Core.Path.{_∙_}
 use Rattle.sorting.proofs.Building.{room, room-long, room-run, front-run, front-count, chosen-laying, chosen-written}
 use Rattle.sorting.proofs.written.write_built.Statement.{statement}
 use Rattle.sorting.proofs.written.write_built.Tie as tie

@@ -1,0 +1,6 @@
+pub mod Said
+pub mod Words
+pub mod Lines
+pub mod Names
+pub mod Answers
+pub mod Serving

@@ -1,0 +1,55 @@
+-- A line of calls: words parted by single blanks, the first the call's name and the others numbers; LF ends it.
+-- Read byte by byte, as the code goes. That the bytes come to the line's words is `line-is` of `proofs/Lines.antt`.
+-- Assumes nothing: these are definitions.
+use Prim.Native.Nat.{ℕ, suc, _+_}
+use mathlib.Core.Bool.{Bool, true, false}
+use mathlib.Core.List.{List, [], _∷_}
+use lib.ListN.{length, set}
+use lib.Dec.{eqb}
+use Rattle.ranges.specs.Numbers.{pick}
+use Rattle.text.specs.Rows.{fresh, rowWith, rowNext, keptAt}
+use Rattle.text.specs.Puts.{placeAfter}
+use Rattle.text.specs.declared.row.Row.{Row}
+use Rattle.calls.specs.declared.line.Line.{Line}
+
+-- how many bytes stand before the first LF, all of them where there is none
+unfoldable pub lineIn : List ℕ → ℕ
+lineIn [] = 0
+lineIn (b ∷ bs) = pick (eqb b 10) 0 (suc (lineIn bs))
+
+-- a line as far as its bytes have come, with the runs that its word and its numbers go to
+pub record Heard : Type 0 where
+  pub line : Line
+  pub name : List ℕ
+  pub numbers : List ℕ
+
+abbrev pub heard : Line → List ℕ → List ℕ → Heard
+heard line name numbers = record { line = line; name = name; numbers = numbers }
+
+-- nothing has been heard
+abbrev pub unheard : Line
+unheard = record { named = false; length = 0; row = fresh }
+
+abbrev pub lineOf : Bool → ℕ → Row → Line
+lineOf named k row = record { named = named; length = k; row = row }
+
+-- a number ends, takes a byte; the name ends, takes a byte
+abbrev pub numberEnds : Heard → Heard
+numberEnds s = heard (lineOf true (s .line .length) (rowNext (s .line .row))) (s .name) (keptAt (s .line .row) 0 (s .numbers))
+
+abbrev pub numberTakes : Heard → ℕ → Heard
+numberTakes s b = heard (lineOf true (s .line .length) (rowWith (s .line .row) b)) (s .name) (s .numbers)
+
+abbrev pub nameEnds : Heard → Heard
+nameEnds s = heard (lineOf true (s .line .length) (s .line .row)) (s .name) (s .numbers)
+
+abbrev pub nameTakes : Heard → ℕ → Heard
+nameTakes s b =
+    heard (lineOf false (placeAfter (length (s .name)) (s .line .length) 1) (s .line .row)) (set (s .name) (s .line .length) b) (s .numbers)
+
+-- one byte, which is no LF
+unfoldable pub heardByte : Heard → ℕ → Heard
+heardByte s b =
+    pick (s .line .named)
+    (pick (eqb b 32) (numberEnds s) (numberTakes s b))
+    (pick (eqb b 32) (nameEnds s) (nameTakes s b))

@@ -1,0 +1,24 @@
+-- The names of the calls.
+-- Assumes nothing: these are definitions.
+use Prim.Native.Nat.{ℕ}
+use mathlib.Core.Bool.{Bool, true, false}
+use mathlib.Core.List.{List, [], _∷_}
+use lib.Dec.{eqb}
+use Rattle.ranges.specs.Numbers.{pick, _and_}
+use Rattle.text.specs.Texts.{bytes}
+use Rattle.calls.specs.declared.word.Word.{Word}
+use Rattle.calls.specs.declared.word.Word.the-variants.{P2r, R2p, Unknown}
+
+-- the same bytes
+abbrev pub alike : List ℕ → List ℕ → Bool
+alike [] [] = true
+alike [] (b ∷ bs) = false
+alike (a ∷ as') [] = false
+alike (a ∷ as') (b ∷ bs) = eqb a b and alike as' bs
+
+-- which call a name asks for
+unfoldable pub wordOf : List ℕ → Word
+wordOf name =
+    pick (alike name (bytes "p2r")) P2r
+    (pick (alike name (bytes "r2p")) R2p
+    Unknown)

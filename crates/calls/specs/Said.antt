@@ -1,0 +1,34 @@
+-- What is answered, as bytes: a word, and numbers each after a blank. Each answer of the library in its words.
+-- Assumes nothing: these are definitions.
+use Prim.Native.Nat.{ℕ}
+use mathlib.Core.List.{List, [], _∷_, _++_}
+use Rattle.ranges.specs.declared.refusal.Refusal.{Refusal}
+use Rattle.ranges.specs.declared.refusal.Count.{Count}
+use Rattle.ranges.specs.declared.refusal.Count.the-variants.{Is, Refused}
+use Rattle.ranges.specs.declared.prefix.Bounds.{Bounds}
+use Rattle.ranges.specs.declared.prefix.Bounds.the-variants.{Are, Refused as NoBounds}
+use Rattle.text.specs.Texts.{bytes}
+use Rattle.text.specs.Puts.{decimalOf}
+
+-- a blank and a number
+abbrev pub spaced : ℕ → List ℕ
+spaced n = bytes " " ++ decimalOf n
+
+-- each number after a blank
+abbrev pub allSpaced : List ℕ → List ℕ
+allSpaced [] = []
+allSpaced (n ∷ ns) = spaced n ++ allSpaced ns
+
+-- refused NUMBER FIRST SECOND
+abbrev pub refusedSaid : Refusal → List ℕ
+refusedSaid x = bytes "refused" ++ spaced (x .number) ++ spaced (x .at) ++ spaced (x .then)
+
+-- ok N, or the refusal
+abbrev pub countSaid : Count → List ℕ
+countSaid (Is k) = bytes "ok" ++ spaced k
+countSaid (Refused x) = refusedSaid x
+
+-- ok LOW HIGH, or the refusal
+abbrev pub boundsSaid : Bounds → List ℕ
+boundsSaid (Are low high) = bytes "ok" ++ spaced low ++ spaced high
+boundsSaid (NoBounds x) = refusedSaid x

@@ -1,0 +1,58 @@
+// The calls of prefixes and ranges. `given` holds the line's numbers after the word.
+use crate::say::put_all;
+use crate::say::put_bad;
+use crate::say::put_bounds;
+use crate::say::put_count;
+use ranges::expand::range_to_prefixes;
+use ranges::prefix::prefix_to_range;
+use text::put::put_text;
+ghost use Rattle.text.specs.Puts.{Put};
+ghost use Rattle.calls.specs.Words.{p2rSaid, expandedSaid, r2pSaid};
+
+// p2r VALUE LENGTH WIDTH: puts the prefix's low and high end, or the refusal.
+pub fn p2r(given: &[u32], out: &mut [u8], at: usize) -> usize
+    ensures { λ r. ⌜ Put (now (out .entry)) at (p2rSaid (now (given .entry))) (now (out .exit)) r ⌝ }
+{
+    if given.len() != 3 {
+        return put_bad(out, at);
+    }
+    let bounds = prefix_to_range(given[2], given[0], given[1]);
+    put_bounds(bounds, out, at)
+}
+
+// Puts how many prefixes a range has, or the refusal, and then the run's numbers afterwards.
+fn put_expanded(
+    width: u32,
+    low: u32,
+    high: u32,
+    run: &mut [u32],
+    out: &mut [u8],
+    at: usize,
+) -> usize
+    ensures { λ r. ⌜ Put (now (out .entry)) at (expandedSaid width low high (now (run .entry))) (now (out .exit)) r ⌝ }
+{
+    let count = range_to_prefixes(width, low, high, run);
+    let a = put_count(count, out, at);
+    let b = put_text(b" run", out, a);
+    put_all(run, out, b)
+}
+
+// r2p LOW HIGH WIDTH RUN: puts how many prefixes the range has, or the refusal, and the run afterwards.
+pub fn r2p(given: &mut [u32], out: &mut [u8], at: usize) -> usize
+    ensures { λ r. ⌜ Put (now (out .entry)) at (r2pSaid (now (given .entry))) (now (out .exit)) r ⌝ }
+{
+    if given.len() < 4 {
+        return put_bad(out, at);
+    }
+    let k = given[3] as usize;
+    if 200 < k {
+        return put_bad(out, at);
+    }
+    if given.len() != 4 + k {
+        return put_bad(out, at);
+    }
+    let width = given[2];
+    let low = given[0];
+    let high = given[1];
+    put_expanded(width, low, high, &mut given[4..], out, at)
+}

@@ -1,0 +1,84 @@
+// Answers as text, put at a place of a lent run: each function answers the place after it. An answer is a word and
+// numbers, each after a blank.
+use ranges::prefix::Bounds;
+use ranges::refusal::Count;
+use ranges::refusal::Refusal;
+use text::put::put_byte;
+use text::put::put_number;
+use text::put::put_text;
+ghost use mathlib.Core.Path.{_≡_};
+ghost use Rattle.text.specs.Texts.{bytes};
+ghost use Rattle.text.specs.Puts.{Put};
+ghost use Rattle.calls.specs.Said.{spaced, allSpaced, refusedSaid, countSaid, boundsSaid};
+
+// Puts a blank and a number.
+pub fn put_spaced(n: u64, out: &mut [u8], at: usize) -> usize
+    ensures { λ r. ⌜ Put (now (out .entry)) at (spaced n) (now (out .exit)) r ⌝ }
+{
+    let next = put_byte(b' ', out, at);
+    put_number(n, out, next)
+}
+
+// Puts each number of a run after a blank.
+pub fn put_all(numbers: &[u32], out: &mut [u8], at: usize) -> usize
+    ensures { λ r. ⌜ Put (now (out .entry)) at (allSpaced (now (numbers .entry))) (now (out .exit)) r ⌝ }
+{
+    let mut place = at;
+    let mut i = 0;
+    while i < numbers.len() {
+        place = put_spaced(wide(numbers[i]), out, place);
+        i += 1;
+    }
+    place
+}
+
+// Gives a number as one of 64 bits.
+fn wide(n: u32) -> u64
+    ensures { λ r. ⌜ r ≡ n ⌝ }
+{
+    n as u64
+}
+
+// Puts the answer to a line that is no call.
+pub fn put_bad(out: &mut [u8], at: usize) -> usize
+    ensures { λ r. ⌜ Put (now (out .entry)) at (bytes "bad") (now (out .exit)) r ⌝ }
+{
+    put_text(b"bad", out, at)
+}
+
+// Puts a refusal: its number and its place of two numbers.
+pub fn put_refused(x: Refusal, out: &mut [u8], at: usize) -> usize
+    ensures { λ r. ⌜ Put (now (out .entry)) at (refusedSaid x) (now (out .exit)) r ⌝ }
+{
+    let a = put_text(b"refused", out, at);
+    let b = put_spaced(x.number as u64, out, a);
+    let c = put_spaced(x.at as u64, out, b);
+    put_spaced(x.then as u64, out, c)
+}
+
+// Puts what is counted, or the refusal.
+pub fn put_count(count: Count, out: &mut [u8], at: usize) -> usize
+    ensures { λ r. ⌜ Put (now (out .entry)) at (countSaid count) (now (out .exit)) r ⌝ }
+{
+    match count {
+        Count::Is(k) => {
+            let a = put_text(b"ok", out, at);
+            put_spaced(k as u64, out, a)
+        }
+        Count::Refused(x) => put_refused(x, out, at),
+    }
+}
+
+// Puts a range's low and high end, or the refusal.
+pub fn put_bounds(bounds: Bounds, out: &mut [u8], at: usize) -> usize
+    ensures { λ r. ⌜ Put (now (out .entry)) at (boundsSaid bounds) (now (out .exit)) r ⌝ }
+{
+    match bounds {
+        Bounds::Are(low, high) => {
+            let a = put_text(b"ok", out, at);
+            let b = put_spaced(low as u64, out, a);
+            put_spaced(high as u64, out, b)
+        }
+        Bounds::Refused(x) => put_refused(x, out, at),
+    }
+}

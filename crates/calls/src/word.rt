@@ -1,0 +1,23 @@
+// The names of the calls.
+ghost use mathlib.Core.Path.{_≡_};
+ghost use Rattle.calls.specs.Names.{wordOf};
+
+// What a line's first word asks for.
+pub enum Word {
+    P2r,
+    R2p,
+    Unknown,
+}
+
+// Says which call a name asks for.
+pub fn word_of(name: &[u8]) -> Word
+    ensures { λ r. ⌜ r ≡ wordOf (now (name .entry)) ⌝ }
+{
+    if check::same(name, b"p2r") {
+        return Word::P2r;
+    }
+    if check::same(name, b"r2p") {
+        return Word::R2p;
+    }
+    Word::Unknown
+}

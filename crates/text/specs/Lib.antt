@@ -1,0 +1,4 @@
+pub mod Cells
+pub mod Rows
+pub mod Texts
+pub mod Puts
