@@ -1,0 +1,25 @@
+// Plain C that does what the proved code does, as one would write it without proofs: what the proved code is timed against.
+#ifndef PLAIN_H
+#define PLAIN_H
+#include <stddef.h>
+#include <stdint.h>
+
+// A lookup's or a scan's answer: the refusal (0: none), the rule (-1: none), the tests.
+struct plain_answer {
+    uint32_t refusal, tests;
+    int32_t rule;
+};
+
+// Writes the table of a list by first fit and gives b, or minus the refusal. First fit compares with the members of each
+// partition in turn; each partition is then sorted by qsort.
+int plain_build(size_t d, const uint32_t *list, size_t length, uint16_t *table, size_t table_length);
+
+// The same table by a cleverer way: each partition is kept sorted, and a rule is held against it by binary search.
+int sorted_build(size_t d, const uint32_t *list, size_t length, uint16_t *table, size_t table_length);
+
+// The walk of 01 as a loop, with every refusal of a lookup.
+struct plain_answer plain_lookup(size_t d, const uint32_t *list, size_t length, const uint16_t *table, size_t table_length, const uint32_t *header);
+
+// The first match by a loop over the rules; the list is taken to be sound, and is not checked.
+int32_t plain_scan(size_t n, size_t d, const uint32_t *list, const uint32_t *header);
+#endif

@@ -1,0 +1,97 @@
+# Turns the lines of the benches into the tables and the paragraph of RESULTS.md: ratios first, then times. In a line of words:
+#   build CHARACTER n d b PROVED PLAIN SORTED                                     nanoseconds of one build
+#   lookup CHARACTER n d b TESTS HITS PROVED RUST C SCAN C_SCAN ACL_MANY ACL_ONE   nanoseconds of one lookup; - where not measured
+#   gateway RULES HEADERS BYTES I_PROVED I_PLAIN T_PROVED T_PLAIN                 instructions, seconds
+#   absent gateway                                                                there is no such crate
+function ratio(a, b) { return b == "-" || b == "" ? "-" : a / b >= 100 ? grouped(a / b) : sprintf(a / b < 0.095 ? "%.3f" : "%.2f", a / b) }
+function per_second(ns) { return ns == "-" || ns == "" ? "-" : sprintf(1000 / ns < 1 ? "%.3f" : "%.2f", 1000 / ns) }
+function micro(ns) { return sprintf(ns < 1e5 ? "%.1f" : "%.0f", ns / 1000) }
+function spoken(character) { gsub("_", " ", character); return character }
+
+$1 == "acl" { acl = $2 " " $3 }
+$1 == "build" { builds[++nb] = $0; if ($2 == "access_list" && $3 == 1024) plain_1024 = $7 }
+$1 == "lookup" && $2 != "fields" && $2 != "partitions" { looks[++nl] = $0 }
+$1 == "lookup" && $2 == "fields" { fields[++nf] = $0 }
+$1 == "lookup" && $2 == "partitions" { parts[++np] = $0 }
+$1 == "gateway" { gateway = $0 }
+$1 == "absent" { absent = 1 }
+$1 == "lookup" {
+    each = $8 / $6
+    if (least == "" || each < least) least = each
+    if (each > most) most = each
+    if ($3 == 1024 && $2 != "fields" && $2 != "partitions" && $8 / $9 > worst) worst = $8 / $9
+}
+
+# Prints one table of ratios and one of lookups a second, for lines[first] to lines[last].
+function lookup_tables(lines, first, last,    k, w) {
+    print "| bench | list | partitions | tests | over Rust loop | over C loop | over scan | over C scan | over acl, 64 a call | over acl, 1 a call |"
+    print "|---|---|--:|--:|--:|--:|--:|--:|--:|--:|"
+    for (k = first; k <= last; k++) {
+        split(lines[k], w, " ")
+        printf "%s **%s** | %s | %s | %s | %s | %s |\n", lookup_name(w), ratio(w[8], w[9]), ratio(w[8], w[10]), ratio(w[8], w[11]), ratio(w[8], w[12]), ratio(w[8], w[13]), ratio(w[8], w[14])
+    }
+    print "\nMillions of lookups a second:\n"
+    print "| bench | list | partitions | tests | proved | Rust loop | C loop | scan | C scan | acl, 64 a call | acl, 1 a call |"
+    print "|---|---|--:|--:|--:|--:|--:|--:|--:|--:|--:|"
+    for (k = first; k <= last; k++) {
+        split(lines[k], w, " ")
+        printf "%s **%s** | %s | %s | %s | %s | %s | %s |\n", lookup_name(w), per_second(w[8]), per_second(w[9]), per_second(w[10]), per_second(w[11]), per_second(w[12]), per_second(w[13]), per_second(w[14])
+    }
+}
+function lookup_name(w) {
+    return sprintf("| `lookup_%d_rules_%d_field%s%s` | %s | %s | %s |", w[3], w[4], w[4] == 1 ? "" : "s", w[2] == "partitions" ? "_" w[5] "_partition" (w[5] == 1 ? "" : "s") : "", w[2] == "fields" ? "points" : w[2] == "partitions" ? "layers" : spoken(w[2]), grouped(w[5]), grouped(w[6], 1))
+}
+# A number with its thousands parted, and with some digits after the point.
+function grouped(x, digits,    t) {
+    t = sprintf("%." (digits + 0) "f", x)
+    return x < 1000 ? t : sprintf("%d,%s", int(x / 1000), substr(t, length(int(x / 1000)) + 1))
+}
+
+END {
+    if (nb) {
+        print "## Build\n"
+        print "Time of the proved `cuy_build` over that of plain C, and microseconds of one build. *C first fit* compares a rule with the members of"
+        print "each partition in turn and sorts by `qsort`; *C, sorted* keeps each partition sorted and holds a rule against it by binary search."
+        print "*Over 1,024* is the proved time over C first fit's for the access list of 1,024 rules. Aims: at most 10 there, and at most 20 for twins and nested.\n"
+        print "| bench | list | partitions | over C first fit | over C, sorted | over 1,024 | proved | C first fit | C, sorted |"
+        print "|---|---|--:|--:|--:|--:|--:|--:|--:|"
+        for (k = 1; k <= nb; k++) {
+            split(builds[k], w, " ")
+            printf "| `build_%d_rules_%d_fields` | %s | %d | **%s** | %s | %s | %s | %s | %s |\n", w[3], w[4], spoken(w[2]), w[5], ratio(w[6], w[7]), ratio(w[6], w[8]), ratio(w[6], plain_1024), micro(w[6]), micro(w[7]), micro(w[8])
+        }
+        print ""
+    }
+    if (nl) {
+        print "## Lookup\n"
+        print "Time of the proved `cuy_lookup` over that of each other way: below 1 the proved lookup is the faster one."
+        print "*Rust loop* and *C loop* are the same walk, with the same refusals, on the same table. *Scan* is the proved `cuy_plain_scan`, which checks the"
+        print "whole list at each call, as 01 has it; *C scan* checks nothing. *acl* is " (acl ? "librte_acl of " acl ", which classifies 64 headers a call, or one" : "librte_acl, which was not there") "."
+        print "Tests are the mean range tests of a lookup. Aim: at most 1.6 over the Rust loop.\n"
+        lookup_tables(looks, 1, nl)
+        print "\nThe same by the number of fields (points) and by the number of partitions (layers of ranges, each within the next):\n"
+        for (k = 1; k <= np; k++) fields[nf + k] = parts[k]
+        lookup_tables(fields, 1, nf + np)
+        print "\n![Nanoseconds of a lookup against the number of rules, for four kinds of list](lookup.svg)\n"
+        print "### How the cost grows\n"
+        split(looks[1], a, " "); split(looks[4], z, " "); split(fields[1], fa, " "); split(fields[nf], fz, " "); split(parts[1], pa, " "); split(parts[np], pz, " ")
+        crossing = ""
+        for (k = 1; k <= np; k++) { split(parts[k], w, " "); if (w[8] < w[11]) crossing = w[5] }
+        printf "A lookup costs what its tests cost, %.0f to %.0f ns each in this run. A partition of m rules takes at most d + k tests, 2^k being the largest power of two\n", least, most
+        printf "within m (proved), so n counts by its logarithm: from %d to %s points, all in one partition, the mean goes from %.1f to %.1f tests and from %.0f to %.0f ns. A field\n", a[3], grouped(z[3]), a[6], z[6], a[8], z[8]
+        printf "adds at most one test a partition: %d fields take %.0f ns where %d takes %.0f. Partitions add up, since each is walked: at n = 1,024 and d = 5 the cost goes from\n", fz[4], fz[8], fa[4], fa[8]
+        printf "%.0f ns with %d partition to %s ns with %s. The scan grows with n alone and knows no partitions: ", pa[8], pa[5], grouped(pz[8]), grouped(pz[5])
+        if (crossing != "") printf "on these layers of 1,024 rules the lookup is the\nfaster one up to %s partitions at least, and the scan is with many more.\n", grouped(crossing)
+        else print "on these layers of 1,024 rules\nit is the faster one."
+        print ""
+    }
+    if (gateway) {
+        split(gateway, w, " ")
+        print "## Program\n"
+        print "The proved `gateway` against the same program in plain C, on the same two files; what they print is compared byte by byte. Instructions are counted"
+        print "by valgrind, from the first to the last; seconds are the processor's, the best of three runs by turns. Aim: at most 3 times the instructions.\n"
+        print "| bench | instructions over C | time over C | instructions, proved | instructions, C | seconds, proved | seconds, C |"
+        print "|---|--:|--:|--:|--:|--:|--:|"
+        printf "| `gateway_%d_rules_%d_headers` | **%s** | %s | %.0f million | %.0f million | %.2f | %.2f |\n\n", w[2], w[3], ratio(w[5], w[6]), ratio(w[7], w[8]), w[5] / 1e6, w[6] / 1e6, w[7], w[8]
+    }
+    if (absent) print "## Program\n\nLeft out: there was no crate `gateway` when this was measured."
+}
