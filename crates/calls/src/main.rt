@@ -15,6 +15,8 @@
 // `write` are the system's; all else is proved on slices.
 mod answer;
 mod line;
+mod list_words;
+mod part;
 mod prefix_words;
 mod say;
 mod serve;
