@@ -69,6 +69,13 @@ pub fn header_of(eight: &[u32]) -> [u32; 8]
     ensures { λ r. ⌜ r ≡ now (eight .entry) ⌝ }
 {
     [
-        eight[0], eight[1], eight[2], eight[3], eight[4], eight[5], eight[6], eight[7],
+        eight[0],
+        eight[1],
+        eight[2],
+        eight[3],
+        eight[4],
+        eight[5],
+        eight[6],
+        eight[7],
     ]
 }
