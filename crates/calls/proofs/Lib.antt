@@ -1,5 +1,7 @@
 -- Said: laws of answers as text.
 pub mod Said
+-- Parts: laws of the parts of a line's numbers.
+pub mod Parts
 -- Words: laws of what each word answers.
 pub mod Words
 -- Lines: laws of a line read byte by byte.

@@ -1,4 +1,5 @@
 pub mod Said
+pub mod Parts
 pub mod Words
 pub mod Lines
 pub mod Names

@@ -7,7 +7,7 @@ use lib.Dec.{eqb}
 use Rattle.ranges.specs.Numbers.{pick, _and_}
 use Rattle.text.specs.Texts.{bytes}
 use Rattle.calls.specs.declared.word.Word.{Word}
-use Rattle.calls.specs.declared.word.Word.the-variants.{P2r, R2p, Unknown}
+use Rattle.calls.specs.declared.word.Word.the-variants.{Check, Scan, Independent, P2r, R2p, Unknown}
 
 -- the same bytes
 abbrev pub alike : List ℕ → List ℕ → Bool
@@ -16,9 +16,17 @@ alike [] (b ∷ bs) = false
 alike (a ∷ as') [] = false
 alike (a ∷ as') (b ∷ bs) = eqb a b and alike as' bs
 
--- which call a name asks for
-unfoldable pub wordOf : List ℕ → Word
-wordOf name =
+-- the calls of prefixes and ranges
+unfoldable pub prefixWord : List ℕ → Word
+prefixWord name =
     pick (alike name (bytes "p2r")) P2r
     (pick (alike name (bytes "r2p")) R2p
     Unknown)
+
+-- which call a name asks for
+unfoldable pub wordOf : List ℕ → Word
+wordOf name =
+    pick (alike name (bytes "check")) Check
+    (pick (alike name (bytes "scan")) Scan
+    (pick (alike name (bytes "independent")) Independent
+    (prefixWord name)))

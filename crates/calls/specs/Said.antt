@@ -7,6 +7,10 @@ use Rattle.ranges.specs.declared.refusal.Count.{Count}
 use Rattle.ranges.specs.declared.refusal.Count.the-variants.{Is, Refused}
 use Rattle.ranges.specs.declared.prefix.Bounds.{Bounds}
 use Rattle.ranges.specs.declared.prefix.Bounds.the-variants.{Are, Refused as NoBounds}
+use Rattle.lists.specs.declared.scan.Match.{Match}
+use Rattle.lists.specs.declared.scan.Match.the-variants.{Rule, Nothing, Refused as NoMatch}
+use Rattle.lists.specs.declared.independence.Pair.{Pair}
+use Rattle.lists.specs.declared.independence.Pair.the-variants.{Independent, Both, Refused as NoPair}
 use Rattle.text.specs.Texts.{bytes}
 use Rattle.text.specs.Puts.{decimalOf}
 
@@ -32,3 +36,15 @@ countSaid (Refused x) = refusedSaid x
 abbrev pub boundsSaid : Bounds → List ℕ
 boundsSaid (Are low high) = bytes "ok" ++ spaced low ++ spaced high
 boundsSaid (NoBounds x) = refusedSaid x
+
+-- ok RULE, ok none, or the refusal
+abbrev pub matchSaid : Match → List ℕ
+matchSaid (Rule i) = bytes "ok" ++ spaced i
+matchSaid Nothing = bytes "ok none"
+matchSaid (NoMatch x) = refusedSaid x
+
+-- ok yes, ok no I J, or the refusal
+abbrev pub pairSaid : Pair → List ℕ
+pairSaid Independent = bytes "ok yes"
+pairSaid (Both i j) = bytes "ok no" ++ spaced i ++ spaced j
+pairSaid (NoPair x) = refusedSaid x

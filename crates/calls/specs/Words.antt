@@ -9,12 +9,28 @@ use lib.Dec.{ltb, eqb}
 use Rattle.ranges.specs.Numbers.{pick}
 use Rattle.ranges.specs.Prefixes.{boundsOf}
 use Rattle.ranges.specs.Blocks.{expandOf, runAfter}
+use Rattle.lists.specs.Check.{checkOf}
+use Rattle.lists.specs.Scan.{scanOf}
+use Rattle.lists.specs.Independence.{independenceOf}
 use Rattle.text.specs.Texts.{bytes}
-use Rattle.calls.specs.Said.{allSpaced, countSaid, boundsSaid}
+use Rattle.calls.specs.Said.{allSpaced, countSaid, boundsSaid, matchSaid, pairSaid}
+use Rattle.calls.specs.Parts.{listEnd, onEnd, rulesTo, headerAt}
 
 -- bad
 abbrev pub badSaid : List ℕ
 badSaid = bytes "bad"
+
+-- check D LIST
+abbrev pub checkSaid : List ℕ → List ℕ
+checkSaid ns = onEnd (listEnd ns 0) (λ e. countSaid (checkOf (rulesTo e ns))) badSaid
+
+-- scan D LIST HEADER
+abbrev pub scanSaid : List ℕ → List ℕ
+scanSaid ns = onEnd (listEnd ns 8) (λ e. matchSaid (scanOf (rulesTo e ns) (headerAt e ns))) badSaid
+
+-- independent D LIST
+abbrev pub independentSaid : List ℕ → List ℕ
+independentSaid ns = onEnd (listEnd ns 0) (λ e. pairSaid (independenceOf (rulesTo e ns))) badSaid
 
 -- p2r VALUE LENGTH WIDTH
 unfoldable pub p2rSaid : List ℕ → List ℕ

@@ -1,7 +1,10 @@
 // The answer to a line that has been heard whole.
 use crate::line::Line;
-use crate::prefix_words::p2r;
-use crate::prefix_words::r2p;
+use crate::list_words::call_check;
+use crate::list_words::call_independent;
+use crate::list_words::call_scan;
+use crate::prefix_words::call_p2r;
+use crate::prefix_words::call_r2p;
 use crate::say::put_bad;
 use crate::word::Word;
 use crate::word::word_of;
@@ -17,8 +20,11 @@ fn put_word(word: Word, given: &mut [u32], out: &mut [u8], at: usize) -> usize
     ensures { λ r. ⌜ Put (now (out .entry)) at (wordSaid word (now (given .entry))) (now (out .exit)) r ⌝ }
 {
     match word {
-        Word::P2r => p2r(given, out, at),
-        Word::R2p => r2p(given, out, at),
+        Word::Check => call_check(given, out, at),
+        Word::Scan => call_scan(given, out, at),
+        Word::Independent => call_independent(given, out, at),
+        Word::P2r => call_p2r(given, out, at),
+        Word::R2p => call_r2p(given, out, at),
         Word::Unknown => put_bad(out, at),
     }
 }

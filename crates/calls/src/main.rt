@@ -1,20 +1,27 @@
 // One library call a line: reads lines from standard input and answers each with one line on standard output, so that
 // scripts and other languages can try every operation.
 //
+//     check D LIST                 ok N
+//     scan D LIST HEADER           ok RULE | ok none
+//     independent D LIST           ok yes | ok no I J
 //     p2r VALUE LENGTH WIDTH       ok LOW HIGH
 //     r2p LOW HIGH WIDTH RUN       ok COUNT | refused ..   and then, either way, " run" and the run's numbers afterwards
 //     any refusal                  refused NUMBER FIRST SECOND
 //     anything else                bad
 //
-// Words are parted by single blanks, and LF ends a line; what follows the last LF, if anything, is a line too. RUN is a
-// length, at most 200, and then that many numbers. Numbers are plain decimals without leading zeros, 0 to 4294967295.
+// Words are parted by single blanks, and LF ends a line; what follows the last LF, if anything, is a line too. LIST and
+// RUN are a length, at most 16500 and 200, and then that many numbers; HEADER is eight numbers. Numbers are plain
+// decimals without leading zeros, 0 to 4294967295.
 //
 // A line may be of any length and may come in pieces: it is heard byte by byte (`line`), its numbers go to a lent run,
 // and once it has ended its word decides what is made of them (`word`, `answer`). A word is one small function
-// (`prefix_words`), which puts its answer's text (`say`) into the run of bytes that is written out. Only `read` and
-// `write` are the system's; all else is proved on slices.
+// (`list_words`, `prefix_words`): it finds the parts of the line's numbers by their places (`part`), calls the library,
+// and puts the answer's text (`say`) into the run of bytes that is written out. Only `read` and `write` are the
+// system's; all else is proved on slices.
 mod answer;
 mod line;
+mod list_words;
+mod part;
 mod prefix_words;
 mod say;
 mod serve;

@@ -10,7 +10,7 @@ ghost use Rattle.text.specs.Puts.{Put};
 ghost use Rattle.calls.specs.Words.{p2rSaid, expandedSaid, r2pSaid};
 
 // p2r VALUE LENGTH WIDTH: puts the prefix's low and high end, or the refusal.
-pub fn p2r(given: &[u32], out: &mut [u8], at: usize) -> usize
+pub fn call_p2r(given: &[u32], out: &mut [u8], at: usize) -> usize
     ensures { λ r. ⌜ Put (now (out .entry)) at (p2rSaid (now (given .entry))) (now (out .exit)) r ⌝ }
 {
     if given.len() != 3 {
@@ -38,7 +38,7 @@ fn put_expanded(
 }
 
 // r2p LOW HIGH WIDTH RUN: puts how many prefixes the range has, or the refusal, and the run afterwards.
-pub fn r2p(given: &mut [u32], out: &mut [u8], at: usize) -> usize
+pub fn call_r2p(given: &mut [u32], out: &mut [u8], at: usize) -> usize
     ensures { λ r. ⌜ Put (now (out .entry)) at (r2pSaid (now (given .entry))) (now (out .exit)) r ⌝ }
 {
     if given.len() < 4 {

@@ -1,5 +1,7 @@
 // Answers as text, put at a place of a lent run: each function answers the place after it. An answer is a word and
 // numbers, each after a blank.
+use lists::independence::Pair;
+use lists::scan::Match;
 use ranges::prefix::Bounds;
 use ranges::refusal::Count;
 use ranges::refusal::Refusal;
@@ -9,7 +11,7 @@ use text::put::put_text;
 ghost use mathlib.Core.Path.{_≡_};
 ghost use Rattle.text.specs.Texts.{bytes};
 ghost use Rattle.text.specs.Puts.{Put};
-ghost use Rattle.calls.specs.Said.{spaced, allSpaced, refusedSaid, countSaid, boundsSaid};
+ghost use Rattle.calls.specs.Said.{spaced, allSpaced, refusedSaid, countSaid, boundsSaid, matchSaid, pairSaid};
 
 // Puts a blank and a number.
 pub fn put_spaced(n: u64, out: &mut [u8], at: usize) -> usize
@@ -80,5 +82,34 @@ pub fn put_bounds(bounds: Bounds, out: &mut [u8], at: usize) -> usize
             put_spaced(high as u64, out, b)
         }
         Bounds::Refused(x) => put_refused(x, out, at),
+    }
+}
+
+// Puts the first match, or none, or the refusal.
+pub fn put_match(found: Match, out: &mut [u8], at: usize) -> usize
+    ensures { λ r. ⌜ Put (now (out .entry)) at (matchSaid found) (now (out .exit)) r ⌝ }
+{
+    match found {
+        Match::Rule(i) => {
+            let a = put_text(b"ok", out, at);
+            put_spaced(i as u64, out, a)
+        }
+        Match::Nothing => put_text(b"ok none", out, at),
+        Match::Refused(x) => put_refused(x, out, at),
+    }
+}
+
+// Puts yes, or no and the pair of rules, or the refusal.
+pub fn put_pair(pair: Pair, out: &mut [u8], at: usize) -> usize
+    ensures { λ r. ⌜ Put (now (out .entry)) at (pairSaid pair) (now (out .exit)) r ⌝ }
+{
+    match pair {
+        Pair::Independent => put_text(b"ok yes", out, at),
+        Pair::Both(i, j) => {
+            let a = put_text(b"ok no", out, at);
+            let b = put_spaced(i as u64, out, a);
+            put_spaced(j as u64, out, b)
+        }
+        Pair::Refused(x) => put_refused(x, out, at),
     }
 }

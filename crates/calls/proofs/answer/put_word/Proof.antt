@@ -7,17 +7,35 @@ use Rattle.calls.proofs.answer.put_word.Tie as tie
 enum-told : tie.Need-enum-told
 enum-told c = search needs
 
-p2r-requires : tie.Need-p2r-requires
-p2r-requires c κs = search needs
+call-check-requires : tie.Need-call-check-requires
+call-check-requires c κs = search needs
 
 enum-told-2 : tie.Need-enum-told-2
 enum-told-2 c = search needs
 
-r2p-requires : tie.Need-r2p-requires
-r2p-requires c κs = search needs
+call-scan-requires : tie.Need-call-scan-requires
+call-scan-requires c κs = search needs
 
 enum-told-3 : tie.Need-enum-told-3
 enum-told-3 c = search needs
+
+call-independent-requires : tie.Need-call-independent-requires
+call-independent-requires c κs = search needs
+
+enum-told-4 : tie.Need-enum-told-4
+enum-told-4 c = search needs
+
+call-p2r-requires : tie.Need-call-p2r-requires
+call-p2r-requires c κs = search needs
+
+enum-told-5 : tie.Need-enum-told-5
+enum-told-5 c = search needs
+
+call-r2p-requires : tie.Need-call-r2p-requires
+call-r2p-requires c κs = search needs
+
+enum-told-6 : tie.Need-enum-told-6
+enum-told-6 c = search needs
 
 put-bad-requires : tie.Need-put-bad-requires
 put-bad-requires c κs = search needs
@@ -29,7 +47,7 @@ same-length-2 : tie.Need-same-length-2
 same-length-2 c = search needs
 
 returns : tie.Need-returns
-returns c = rw (c .before .before .before .before .before .enum-told .given .1) (c .before .before .p2r .ensures)
+returns c = rw (c .before .before .before .before .before .enum-told .given .1) (c .before .before .call-check .ensures)
 
 same-length-3 : tie.Need-same-length-3
 same-length-3 c = search needs
@@ -38,23 +56,56 @@ same-length-4 : tie.Need-same-length-4
 same-length-4 c = search needs
 
 returns-2 : tie.Need-returns-2
-returns-2 c = rw (c .before .before .before .before .before .before .before .enum-told2 .given .1) (c .before .before .before .before .r2p .ensures)
+returns-2 c = rw (c .before .before .before .before .before .enum-told2 .given .1) (c .before .before .call-scan .ensures)
 
 same-length-5 : tie.Need-same-length-5
 same-length-5 c = search needs
 
+same-length-6 : tie.Need-same-length-6
+same-length-6 c = search needs
+
 returns-3 : tie.Need-returns-3
-returns-3 c = rw (c .before .before .before .before .enum-told3 .given .1) (c .before .before .put-bad .ensures)
+returns-3 c = rw (c .before .before .before .before .before .enum-told3 .given .1) (c .before .before .call-independent .ensures)
+
+same-length-7 : tie.Need-same-length-7
+same-length-7 c = search needs
+
+same-length-8 : tie.Need-same-length-8
+same-length-8 c = search needs
+
+returns-4 : tie.Need-returns-4
+returns-4 c = rw (c .before .before .before .before .before .enum-told4 .given .1) (c .before .before .call-p2r .ensures)
+
+same-length-9 : tie.Need-same-length-9
+same-length-9 c = search needs
+
+same-length-10 : tie.Need-same-length-10
+same-length-10 c = search needs
+
+returns-5 : tie.Need-returns-5
+returns-5 c = rw (c .before .before .before .before .before .before .before .enum-told5 .given .1) (c .before .before .before .before .call-r2p .ensures)
+
+same-length-11 : tie.Need-same-length-11
+same-length-11 c = search needs
+
+returns-6 : tie.Need-returns-6
+returns-6 c = rw (c .before .before .before .before .enum-told6 .given .1) (c .before .before .put-bad .ensures)
 
 pub put-word-spec : {M : Type 1} → statement M
 put-word-spec =
     tie.close
     (tie.spec
     enum-told
-    p2r-requires
+    call-check-requires
     enum-told-2
-    r2p-requires
+    call-scan-requires
     enum-told-3
+    call-independent-requires
+    enum-told-4
+    call-p2r-requires
+    enum-told-5
+    call-r2p-requires
+    enum-told-6
     put-bad-requires
     same-length
     same-length-2
@@ -63,4 +114,13 @@ put-word-spec =
     same-length-4
     returns-2
     same-length-5
-    returns-3)
+    same-length-6
+    returns-3
+    same-length-7
+    same-length-8
+    returns-4
+    same-length-9
+    same-length-10
+    returns-5
+    same-length-11
+    returns-6)

@@ -17,7 +17,7 @@ returns : tie.Need-returns
 unfolding wordOf
 returns c =
     let name = c .before .before .before .before .args .name .now in
-    rw (alike-is name (bytes "p2r") (c .before .same .ensures) (c .if1 .taken))
+    rw (alike-is name (bytes "check") (c .before .same .ensures) (c .if1 .taken))
 
 slice-aggregate-same-2 : tie.Need-slice-aggregate-same-2
 slice-aggregate-same-2 c = search needs
@@ -28,14 +28,35 @@ same-requires-2 c κs = search needs
 returns-2 : tie.Need-returns-2
 unfolding wordOf
 returns-2 c =
-    let name = c .before .before .before .before .before .before .before .args .name .now in
-    rw (alike-is name (bytes "p2r") (c .before .before .before .before .same .ensures) (c .before .before .before .if1 .left), alike-is name (bytes "r2p") (c .before .same2 .ensures) (c .if2 .taken))
+    let first = c .before .before .before in
+    let name = first .before .before .before .before .args .name .now in
+    rw (alike-is name (bytes "check") (first .before .same .ensures) (first .if1 .left), alike-is name (bytes "scan") (c .before .same2 .ensures) (c .if2 .taken))
+
+slice-aggregate-same-3 : tie.Need-slice-aggregate-same-3
+slice-aggregate-same-3 c = search needs
+
+same-requires-3 : tie.Need-same-requires-3
+same-requires-3 c κs = search needs
 
 returns-3 : tie.Need-returns-3
 unfolding wordOf
 returns-3 c =
-    let name = c .before .before .before .before .before .before .before .args .name .now in
-    rw (alike-is name (bytes "p2r") (c .before .before .before .before .same .ensures) (c .before .before .before .if1 .left), alike-is name (bytes "r2p") (c .before .same2 .ensures) (c .if2 .left))
+    let second = c .before .before .before in
+    let first = second .before .before .before in
+    let name = first .before .before .before .before .args .name .now in
+    rw (alike-is name (bytes "check") (first .before .same .ensures) (first .if1 .left), alike-is name (bytes "scan") (second .before .same2 .ensures) (second .if2 .left), alike-is name (bytes "independent") (c .before .same3 .ensures) (c .if3 .taken))
+
+prefix-word-requires : tie.Need-prefix-word-requires
+prefix-word-requires c κs = search needs
+
+returns-4 : tie.Need-returns-4
+unfolding wordOf
+returns-4 c =
+    let third = c .before in
+    let second = third .before .before .before in
+    let first = second .before .before .before in
+    let name = first .before .before .before .before .args .name .now in
+    rw (alike-is name (bytes "check") (first .before .same .ensures) (first .if1 .left), alike-is name (bytes "scan") (second .before .same2 .ensures) (second .if2 .left), alike-is name (bytes "independent") (third .before .same3 .ensures) (third .if3 .left)) (c .prefix-word .ensures)
 
 pub word-of-spec : {M : Type 1} → statement M
 word-of-spec =
@@ -47,4 +68,8 @@ word-of-spec =
     slice-aggregate-same-2
     same-requires-2
     returns-2
-    returns-3)
+    slice-aggregate-same-3
+    same-requires-3
+    returns-3
+    prefix-word-requires
+    returns-4)

@@ -1,9 +1,9 @@
--- `calls::prefix_words::p2r` meets its contract.
+-- `calls::prefix_words::call_p2r` meets its contract.
 -- Assumes nothing.
 use borrow.Author.Needs.{needs}
 use Rattle.calls.proofs.Words.{p2r-bad, p2r-call}
-use Rattle.calls.proofs.prefix_words.p2r.Statement.{statement}
-use Rattle.calls.proofs.prefix_words.p2r.Tie as tie
+use Rattle.calls.proofs.prefix_words.call_p2r.Statement.{statement}
+use Rattle.calls.proofs.prefix_words.call_p2r.Tie as tie
 
 put-bad-requires : tie.Need-put-bad-requires
 put-bad-requires c κs = search needs
@@ -39,8 +39,8 @@ returns-2 c =
     let ns = c .before .before .before .before .before .before .before .before .before .before .before .args .given .now in
     rw (p2r-call ns (c .before .before .before .before .before .before .before .before .if1 .left), ← c .before .before .before .before .prefix-to-range .ensures) (c .before .before .put-bounds .ensures)
 
-pub p2r-spec : {M : Type 1} → statement M
-p2r-spec =
+pub call-p2r-spec : {M : Type 1} → statement M
+call-p2r-spec =
     tie.close
     (tie.spec
     put-bad-requires

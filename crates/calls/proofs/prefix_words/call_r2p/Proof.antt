@@ -1,10 +1,10 @@
--- `calls::prefix_words::r2p` meets its contract: each test that fails is a bad line; the run is all past place 3.
+-- `calls::prefix_words::call_r2p` meets its contract: each test that fails is a bad line; the run is all past place 3.
 -- Assumes nothing.
 use borrow.Author.Needs.{needs}
 use native.Mathlib.Omega.{arith}
 use Rattle.calls.proofs.Words.{rest-lent, r2p-short, r2p-long, r2p-cut, r2p-call}
-use Rattle.calls.proofs.prefix_words.r2p.Statement.{statement}
-use Rattle.calls.proofs.prefix_words.r2p.Tie as tie
+use Rattle.calls.proofs.prefix_words.call_r2p.Statement.{statement}
+use Rattle.calls.proofs.prefix_words.call_r2p.Tie as tie
 
 put-bad-requires : tie.Need-put-bad-requires
 put-bad-requires c κs = search needs
@@ -78,8 +78,8 @@ returns-4 c =
     let ns = c .before .before .before .before .before .before .before .before .before .before .before .before .before .before .before .before .args .given .now in
     rw (r2p-call ns (c .before .before .before .before .before .before .before .before .before .before .before .before .before .if1 .left) (c .before .before .before .before .before .before .before .before .before .before .before .if2 .left) (c .before .before .before .before .before .before .before .before .before .before .if3 .left), ← rest-lent ns 4) (c .before .before .before .before .put-expanded .ensures)
 
-pub r2p-spec : {M : Type 1} → statement M
-r2p-spec =
+pub call-r2p-spec : {M : Type 1} → statement M
+call-r2p-spec =
     tie.close
     (tie.spec
     put-bad-requires

@@ -1,0 +1,18 @@
+-- `calls::part::shape_in` meets its contract.
+-- Assumes nothing.
+use borrow.Author.Needs.{needs}
+use native.Mathlib.Omega.{arith}
+use Rattle.calls.proofs.part.shape_in.Statement.{statement}
+use Rattle.calls.proofs.part.shape_in.Tie as tie
+
+shared-slice-read-t3 : tie.Need-shared-slice-read-t3
+shared-slice-read-t3 c = search needs
+
+cast-t4 : tie.Need-cast-t4
+cast-t4 c = omega (arith, c .shared-slice-known .given 0)
+
+returns : tie.Need-returns
+returns c = search needs
+
+pub shape-in-spec : {M : Type 1} → statement M
+shape-in-spec = tie.close (tie.spec shared-slice-read-t3 cast-t4 returns)

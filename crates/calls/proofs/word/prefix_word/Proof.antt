@@ -1,0 +1,50 @@
+-- `calls::word::prefix_word` meets its contract: at each way out the comparisons that led there decide the definition.
+-- Assumes nothing.
+use borrow.Author.Needs.{needs}
+use Rattle.text.specs.Texts.{bytes}
+use Rattle.calls.specs.Names.{prefixWord}
+use Rattle.calls.proofs.Names.{alike-is}
+use Rattle.calls.proofs.word.prefix_word.Statement.{statement}
+use Rattle.calls.proofs.word.prefix_word.Tie as tie
+
+slice-aggregate-same : tie.Need-slice-aggregate-same
+slice-aggregate-same c = search needs
+
+same-requires : tie.Need-same-requires
+same-requires c κs = search needs
+
+returns : tie.Need-returns
+unfolding prefixWord
+returns c =
+    let name = c .before .before .before .before .args .name .now in
+    rw (alike-is name (bytes "p2r") (c .before .same .ensures) (c .if1 .taken))
+
+slice-aggregate-same-2 : tie.Need-slice-aggregate-same-2
+slice-aggregate-same-2 c = search needs
+
+same-requires-2 : tie.Need-same-requires-2
+same-requires-2 c κs = search needs
+
+returns-2 : tie.Need-returns-2
+unfolding prefixWord
+returns-2 c =
+    let name = c .before .before .before .before .before .before .before .args .name .now in
+    rw (alike-is name (bytes "p2r") (c .before .before .before .before .same .ensures) (c .before .before .before .if1 .left), alike-is name (bytes "r2p") (c .before .same2 .ensures) (c .if2 .taken))
+
+returns-3 : tie.Need-returns-3
+unfolding prefixWord
+returns-3 c =
+    let name = c .before .before .before .before .before .before .before .args .name .now in
+    rw (alike-is name (bytes "p2r") (c .before .before .before .before .same .ensures) (c .before .before .before .if1 .left), alike-is name (bytes "r2p") (c .before .same2 .ensures) (c .if2 .left))
+
+pub prefix-word-spec : {M : Type 1} → statement M
+prefix-word-spec =
+    tie.close
+    (tie.spec
+    slice-aggregate-same
+    same-requires
+    returns
+    slice-aggregate-same-2
+    same-requires-2
+    returns-2
+    returns-3)

@@ -1,0 +1,50 @@
+-- The parts of a line's numbers, by their places. LIST, TABLE and RUN are a length and then that many numbers, HEADER is
+-- eight numbers. Numbers that are not as a part wants them have no end for it.
+-- Assumes nothing: these are definitions.
+use Prim.Native.Nat.{ℕ, _+_, _-_}
+use mathlib.Core.List.{List}
+use lib.ListN.{length, getD, take, drop}
+use lib.Dec.{ltb, leb, eqb}
+use Rattle.ranges.specs.Numbers.{pick}
+use Rattle.lists.specs.declared.shape.Shape.{Shape}
+use Rattle.lists.specs.Rules.{Rules, listed}
+use Rattle.calls.specs.declared.part.End.{End}
+use Rattle.calls.specs.declared.part.End.the-variants.{At, Missing}
+
+-- the numbers from place a to before place e
+abbrev pub between : ℕ → ℕ → List ℕ → List ℕ
+between a e ns = take (e - a) (drop a ns)
+
+-- where the run from place `at` on ends: a length, at most `most`, and then that many numbers
+-- (of 2 3 7 8 9 5 the run from place 1 ends at place 5)
+unfoldable pub runEnd : ℕ → List ℕ → ℕ → End
+runEnd most ns at =
+    pick (leb (length ns) at) Missing
+    (pick (ltb most (getD ns at 0)) Missing
+    (pick (ltb (length ns) (at + 1 + getD ns at 0)) Missing
+    (At (at + 1 + getD ns at 0))))
+
+-- a part's end, where exactly so many numbers more follow it
+abbrev pub exactly : List ℕ → ℕ → End → End
+exactly ns more (At e) = pick (eqb (length ns) (e + more)) (At e) Missing
+exactly ns more Missing = Missing
+
+-- where the list of D LIST ends, with exactly so many numbers more after it; a list has at most 16500 numbers
+unfoldable pub listEnd : List ℕ → ℕ → End
+listEnd ns more = exactly ns more (runEnd 16500 ns 1)
+
+-- what follows where a part ends, else the other
+abbrev pub onEnd : End → (ℕ → List ℕ) → List ℕ → List ℕ
+onEnd (At e) next other = next e
+onEnd Missing next other = other
+
+-- D, and the list with it
+abbrev pub shapeIn : List ℕ → Shape
+shapeIn ns = record { d = getD ns 0 0 }
+
+abbrev pub rulesTo : ℕ → List ℕ → Rules
+rulesTo e ns = listed (shapeIn ns) (between 2 e ns)
+
+-- HEADER, from a place on
+abbrev pub headerAt : ℕ → List ℕ → List ℕ
+headerAt at ns = between at (at + 8) ns
