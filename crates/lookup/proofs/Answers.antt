@@ -4,27 +4,26 @@
 --     walk-fits, visit-fits            of a walk, and of a partition
 --     rule-fits                        of a lookup
 -- Assumes nothing.
-use Prim.Native.Nat.{ℕ, zero, suc, _+_, min, _<_, _≤_}
+use Prim.Native.Nat.{ℕ, zero, suc, _+_, min, _<_}
 use mathlib.Core.Bool.{Bool, true, false}
 use mathlib.Core.List.{List}
 use mathlib.Core.Path.{_≡_, refl, sym, ap, _∙_, subst}
 use native.Mathlib.Omega.{arith}
-use lib.Dec.{ltb, eqb}
-use borrow.Author.Tests.{ltb-true, ltb-false, eqb-true}
+use lib.Dec.{ltb}
+use borrow.Author.Tests.{ltb-true, ltb-false}
 use Rattle.ranges.specs.Numbers.{pick}
-use Rattle.ranges.specs.Refusals.{refused, stands, BrokenTable}
+use Rattle.ranges.specs.Refusals.{stands}
 use Rattle.ranges.proofs.Numbers.{never}
 use Rattle.lists.specs.Rules.{Rules, rulesIn}
 use Rattle.lists.specs.FirstMatch.{fits}
 use Rattle.sorting.specs.Layout.{View}
 use Rattle.sorting.specs.Opening.{viewOf, openFault}
 use Rattle.lookup.specs.Walk.{arrivedOf, walkFrom}
-use Rattle.lookup.specs.Lookup.{visitOf, better, afterVisit, answerOf, lookupFrom, searchOf, lookupOf}
+use Rattle.lookup.specs.Lookup.{visitOf, better, afterVisit, lookupFrom, searchOf, lookupOf}
 use Rattle.lookup.specs.declared.walk.Found.{Found}
 use Rattle.lookup.specs.declared.walk.Found.the-variants.{Hit, Miss}
 use Rattle.lookup.specs.declared.walk.Walked.{Walked}
 use Rattle.lookup.specs.declared.walk.Walked.the-variants.{Ran, Broken}
-use Rattle.lookup.specs.declared.lookup.Looked.{Looked}
 use Rattle.lookup.specs.declared.lookup.Looked.the-variants.{Rule, Nothing, Refused}
 use Rattle.lookup.proofs.Arrivals.{arrived}
 use Rattle.lookup.proofs.Walks.{walk-holds}

@@ -3,13 +3,13 @@
 --     Arrived, arrived, arrived-yes               what an answer says, either way round
 -- Assumes nothing.
 use Prim.Native.Nat.{ℕ, _+_, _≤_, _<_}
-use mathlib.Core.Bool.{Bool, true, false, not}
+use mathlib.Core.Bool.{Bool, true, false}
 use mathlib.Core.List.{List}
-use mathlib.Core.Path.{_≡_, refl, sym, ap, _∙_}
+use mathlib.Core.Path.{_≡_, refl}
 use lib.Dec.{ltb, eqb}
 use borrow.Author.Tests.{lt-ltb, le-ltb, eq-eqb, ne-eqb, ltb-true, eqb-true}
 use Rattle.ranges.specs.Numbers.{pick, _and_, _or_}
-use Rattle.ranges.proofs.Numbers.{never, and-left, and-right}
+use Rattle.ranges.proofs.Numbers.{never}
 use Rattle.lists.specs.Rules.{Rules, fieldsOf, rulesIn}
 use Rattle.lists.specs.FirstMatch.{fits}
 use Rattle.lists.specs.Scan.{fitsIn}

@@ -1,12 +1,13 @@
 -- 01, A small bench list: the marked cases B1 to B12, as one table of rows and one statement about the definitions.
 -- A row has its mark, what a definition gives, and what 01 writes; both as numbers. Of a lookup these are what the answer says in the
 -- paper's words (`saysLooked`): the refusal's number and place, then 1, the rule and the tests, or 0 and the tests.
+-- B10 to B12 are rows on prefixes (`ranges`), to stand below B9.
 -- Assumes nothing.
 use Prim.Native.Nat.{ℕ}
 use mathlib.Core.Bool.{Bool, true, false}
 use mathlib.Core.List.{List, [], _∷_}
-use lib.Dec.{T, eqb, ltb, leb}
-use Rattle.ranges.specs.Numbers.{pick, _and_, all, count, least, greatest, tab}
+use lib.Dec.{T, eqb}
+use Rattle.ranges.specs.Numbers.{_and_, all, count, least, greatest, tab}
 use Rattle.ranges.specs.Refusals.{Said}
 use Rattle.ranges.specs.Sides.{endOf, sideOf}
 use Rattle.ranges.specs.Prefixes.{prefixFault, boundsOf, saysBounds}

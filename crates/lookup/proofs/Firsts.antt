@@ -12,7 +12,6 @@ use mathlib.Core.Bool.{Bool, true, false}
 use mathlib.Core.List.{List}
 use mathlib.Core.Path.{_≡_, refl, sym, ap, _∙_, subst}
 use native.Mathlib.Omega.{arith}
-use lib.ListN.{length}
 use lib.Dec.{ltb}
 use borrow.Author.Tests.{ltb-true, ltb-false, eq-eqb}
 use Rattle.ranges.specs.Numbers.{least}
@@ -23,15 +22,13 @@ use Rattle.lists.specs.FirstMatch.{fits, firstMatch}
 use Rattle.lists.proofs.Rules.{Shaped}
 use Rattle.lists.proofs.Faults.{shape-stands}
 use Rattle.sorting.specs.Layout.{View, TableFor}
-use Rattle.sorting.specs.Opening.{opening, viewOf, openFault}
+use Rattle.sorting.specs.Opening.{viewOf, openFault}
 use Rattle.sorting.specs.Promise.{InPart, Promise}
 use Rattle.sorting.proofs.Opening.{opening-last, open-stands}
-use Rattle.lookup.specs.Walk.{walkFrom}
 use Rattle.lookup.specs.Lookup.{visitOf, better, answerOf, lookupFrom, searchOf, lookupOf}
 use Rattle.lookup.specs.declared.walk.Found.{Found}
 use Rattle.lookup.specs.declared.walk.Found.the-variants.{Hit, Miss}
 use Rattle.lookup.specs.declared.walk.Walked.the-variants.{Ran}
-use Rattle.lookup.specs.declared.lookup.Looked.{Looked}
 use Rattle.lookup.proofs.Answers.{Matches, visit-fits, sooner-fits}
 use Rattle.lookup.proofs.Groups.{Finds, starts-within, held-first, walk-finds}
 use Rattle.lookup.proofs.Visits.{visit-walks, from-none, from-on}

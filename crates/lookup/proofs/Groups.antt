@@ -19,32 +19,29 @@ use mathlib.Core.Path.{_≡_, refl, sym, ap, _∙_, subst}
 use native.Mathlib.Omega.{arith}
 use native.Mathlib.Numerals.{add-one}
 use lib.ListN.{getD}
-use lib.Dec.{ltb, leb}
+use lib.Dec.{ltb}
 use borrow.Author.Tests.{ltb-true, ltb-false}
-use Rattle.ranges.specs.Numbers.{all}
-use Rattle.ranges.specs.Sides.{endOf, isInside}
+use Rattle.ranges.specs.Sides.{endOf}
 use Rattle.ranges.specs.declared.side.Side.{Side}
 use Rattle.ranges.specs.declared.side.Side.the-variants.{Below, Above, Inside}
-use Rattle.ranges.proofs.Numbers.{never, all-yes, all-at}
+use Rattle.ranges.proofs.Numbers.{all-yes, all-at}
 use Rattle.ranges.proofs.Sides.{inside-at, is-below, is-above, is-inside, inside-yes}
 use Rattle.lists.specs.Rules.{Rules, fieldsOf, rulesIn, lowOf, highOf, endsAt}
 use Rattle.lists.specs.FirstMatch.{sideAt, insideAt, fits}
 use Rattle.sorting.specs.Layout.{View}
-use Rattle.sorting.specs.Order.{compare, isAlike, alike, before}
+use Rattle.sorting.specs.Order.{compare, isAlike}
 use Rattle.sorting.specs.Promise.{InPart, Run, Promise}
-use Rattle.sorting.specs.declared.order.Standing.{Standing}
 use Rattle.sorting.specs.declared.order.Standing.the-variants.{Alike}
 use Rattle.sorting.proofs.Sound.{Sound}
 use Rattle.sorting.proofs.Standings.{compare-none, alike-is, alike-refl, alike-sym, alike-trans, alike-fewer, alike-fields, Under, before-at, convex}
-use Rattle.lookup.specs.Walk.{midOf, leaves, stepAt, stepOf, arrivedOf, walkFrom}
+use Rattle.lookup.specs.Walk.{midOf, leaves, stepAt, walkFrom}
 use Rattle.lookup.specs.declared.walk.Found.{Found}
 use Rattle.lookup.specs.declared.walk.Found.the-variants.{Hit, Miss}
 use Rattle.lookup.specs.declared.walk.Walked.{Walked}
-use Rattle.lookup.specs.declared.walk.Walked.the-variants.{Ran, Broken}
-use Rattle.lookup.specs.declared.walk.Step.{Step}
-use Rattle.lookup.specs.declared.walk.Step.the-variants.{On, Fault}
+use Rattle.lookup.specs.declared.walk.Walked.the-variants.{Ran}
+use Rattle.lookup.specs.declared.walk.Step.the-variants.{On}
 use Rattle.lookup.proofs.Arrivals.{arrived-yes}
-use Rattle.lookup.proofs.Steps.{Trusted, trusted-stands, step-by, Smaller, step-smaller}
+use Rattle.lookup.proofs.Steps.{Trusted, trusted-stands, step-by, step-smaller}
 use Rattle.lookup.proofs.Walks.{walk-empty, walk-arrives, walk-on}
 
 -- ---- what a promise says of the partitions
@@ -398,6 +395,9 @@ pub record Finds (R : Rules) (v : View) (h : List ℕ) (q : ℕ) (w : Walked) : 
   pub is : w ≡ Ran found tests
   pub finds : (r : ℕ) → InPart v q r → fits R h (v .order r) ≡ true → found ≡ Hit (v .order r)
 
+finds-by : {R : Rules} {v : View} {h : List ℕ} {q : ℕ} {w w′ : Walked} → w ≡ w′ → Finds R v h q w′ → Finds R v h q w
+finds-by same f = record { found = f .found; tests = f .tests; is = same ∙ f .is; finds = f .finds }
+
 -- what a test at a member m leaves: never a broken table, and a group that has the invariant
 record Leaves (R : Rules) (v : View) (h : List ℕ) (q s e f m : ℕ) : Type 0 where
   start : ℕ
@@ -482,10 +482,5 @@ module _ {R : Rules} {v : View} (h : List ℕ) (promise : Promise R v) where
           let row = ltb-true f (fieldsOf R) is-p in
           let l = test-leaves q s e f (midOf s e) held row (omega arith) (omega arith) in
           let less = step-smaller R v h (fieldsOf R) s e f (l .start) (l .end) (l .field) some row (l .step) in
-          let on = rest (l .start) (l .end) (l .field) (t + 1) (omega (arith, less .falls)) (less .field) (l .rest) in
-          record {
-            found = on .found;
-            tests = on .tests;
-            is = walk-on R v h k s e f t some row (l .start) (l .end) (l .field) (l .step) ∙ on .is;
-            finds = on .finds;
-          }
+          finds-by (walk-on R v h k s e f t some row (l .start) (l .end) (l .field) (l .step))
+          (rest (l .start) (l .end) (l .field) (t + 1) (omega (arith, less .falls)) (less .field) (l .rest))

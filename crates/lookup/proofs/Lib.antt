@@ -1,4 +1,4 @@
--- The laws that proofs of this crate and above cite:
+-- The laws that proofs of this crate and above cite, from the code's leaves up:
 -- Within: what the walk reads lies within the list and the table.
 -- Steps: what one test leaves.
 -- Arrivals: the end of a walk at field d.
@@ -6,6 +6,16 @@
 -- Counts: how many tests a walk makes.
 -- Visits: a partition, and all of them in order.
 -- Lookups: the refusals of the opening, and the search of a table that opens.
+-- What follows of the lookup, by its definition alone:
+-- Answers: a rule returned fits.
+-- Unread: numbers past d are unread.
+-- Refusing: when a lookup refuses, and with what.
+-- Groups: a walk through a partition of a table that keeps the promise.
+-- Firsts: the lookup in such a table is first match.
+-- Totals: the count is the sum, at most d + k a partition.
+-- Reached: the bound is reached.
+-- Theorems: the headline statements under the three demands.
+-- Cases: the marked cases. Determined: any two results allowed are equal.
 pub mod Within
 pub mod Steps
 pub mod Arrivals
@@ -13,13 +23,13 @@ pub mod Walks
 pub mod Counts
 pub mod Visits
 pub mod Lookups
-pub mod Cases
 pub mod Answers
 pub mod Unread
+pub mod Refusing
 pub mod Groups
 pub mod Firsts
 pub mod Totals
 pub mod Reached
-pub mod Refusing
 pub mod Theorems
+pub mod Cases
 pub mod Determined

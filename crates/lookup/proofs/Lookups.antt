@@ -9,8 +9,6 @@ use mathlib.Core.Path.{_≡_, sym, ap, _∙_}
 use native.Mathlib.Omega.{arith}
 use lib.ListN.{length, getD}
 use borrow.Author.Tests.{eq-eqb, ne-eqb}
-use Rattle.ranges.specs.Numbers.{pick}
-use Rattle.ranges.specs.Refusals.{stands}
 use Rattle.ranges.specs.declared.refusal.Refusal.{Refusal}
 use Rattle.lists.specs.Rules.{Rules, fieldsOf, rulesIn}
 use Rattle.sorting.specs.Layout.{view, partsAt}

@@ -6,23 +6,22 @@
 --     ladder-parts                                              its one partition
 --     ladder-reaches                                            its lookup makes d + k tests
 -- Assumes nothing.
-use Prim.Native.Nat.{ℕ, zero, suc, _+_, _-_, _*_, _/_, _^_, min, _≤_, _<_}
+use Prim.Native.Nat.{ℕ, zero, suc, _+_, _-_, _*_, _/_, min, _≤_, _<_}
 use mathlib.Core.Bool.{Bool, true, false, not}
-use mathlib.Core.List.{List}
-use mathlib.Core.Path.{_≡_, refl, sym, ap, _∙_, subst}
+use mathlib.Core.Path.{_≡_, refl, sym, ap, _∙_}
 use native.Mathlib.Omega.{arith}
 use native.Mathlib.Nat.{mul-assoc, mul-div-cancel, div-eq-of-lt-le}
-use lib.ListN.{length, getD, getD-replicate}
+use lib.ListN.{getD, getD-replicate}
 use lib.Dec.{ltb}
 use lib.Pow.{pow-pos}
 use borrow.Author.Tests.{lt-ltb, le-ltb, lt-leb, ltb-true, ltb-false}
-use Rattle.ranges.specs.Numbers.{pick, all, least, tab}
+use Rattle.ranges.specs.Numbers.{least}
 use Rattle.ranges.specs.Refusals.{none}
 use Rattle.ranges.specs.Sides.{isInside}
 use Rattle.ranges.specs.declared.side.Side.{Side}
-use Rattle.ranges.specs.declared.side.Side.the-variants.{Below, Above, Inside}
+use Rattle.ranges.specs.declared.side.Side.the-variants.{Below, Inside}
 use Rattle.ranges.proofs.Numbers.{all-yes, least-none, tab-length, tab-at}
-use Rattle.ranges.proofs.Sides.{past-high, within-high, side-below, side-inside, inside-yes}
+use Rattle.ranges.proofs.Sides.{past-high, within-high, side-below, side-inside}
 use Rattle.lists.specs.Rules.{Rules, fieldsOf, rulesIn, cellOf, lowOf, highOf, endsAt, isVoid}
 use Rattle.lists.specs.FirstMatch.{sideAt, insideAt, fits}
 use Rattle.lists.specs.Faults.{shapeFault, soundRule, badRule, endsFault, listFault}
@@ -31,7 +30,7 @@ use Rattle.lists.proofs.Faults.{shape-stands, shaped}
 use Rattle.sorting.specs.Layout.{View}
 use Rattle.sorting.specs.Opening.{viewOf}
 use Rattle.sorting.specs.Order.{compare, isClash, before, clash}
-use Rattle.sorting.specs.FirstFit.{partOf, firstFit, parts}
+use Rattle.sorting.specs.FirstFit.{partOf, firstFit}
 use Rattle.sorting.specs.Promise.{InPart, Promise}
 use Rattle.sorting.specs.declared.order.Standing.the-variants.{Alike}
 use Rattle.sorting.specs.Table.{builtTable}
@@ -41,15 +40,14 @@ use Rattle.sorting.proofs.Parts.{parts-over, parts-least}
 use Rattle.sorting.proofs.FirstFits.{free-yes, fit-is, first-fit-at}
 use Rattle.sorting.proofs.Reading.{read-parts, table-sized}
 use Rattle.sorting.proofs.Built.{built-keeps-promise}
-use Rattle.lookup.specs.Walk.{midOf, leaves, stepAt, stepOf, walkFrom}
-use Rattle.lookup.specs.Lookup.{visitOf, better, answerOf, lookupFrom, searchOf, lookupOf}
+use Rattle.lookup.specs.Walk.{midOf, leaves, stepAt, walkFrom}
+use Rattle.lookup.specs.Lookup.{visitOf, answerOf, lookupFrom, searchOf, lookupOf}
 use Rattle.lookup.specs.Bounds.{PowerWithin, ladder, zeros}
 use Rattle.lookup.specs.declared.walk.Found.the-variants.{Hit}
 use Rattle.lookup.specs.declared.walk.Walked.the-variants.{Ran}
-use Rattle.lookup.specs.declared.walk.Step.the-variants.{On}
 use Rattle.lookup.specs.declared.lookup.Looked.the-variants.{Rule}
 use Rattle.lookup.proofs.Arrivals.{arrived-yes}
-use Rattle.lookup.proofs.Steps.{Trusted, trusted-stands, step-by}
+use Rattle.lookup.proofs.Steps.{trusted-stands, step-by}
 use Rattle.lookup.proofs.Walks.{walk-arrives, walk-on}
 use Rattle.lookup.proofs.Visits.{visit-walks, from-none, from-on}
 use Rattle.lookup.proofs.Lookups.{lookup-searches}

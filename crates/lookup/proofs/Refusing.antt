@@ -19,9 +19,8 @@ use Rattle.lists.specs.Rules.{Rules, fieldsOf, rulesIn}
 use Rattle.lists.specs.Faults.{shapeFault}
 use Rattle.sorting.specs.Layout.{View, tableLength}
 use Rattle.sorting.specs.Opening.{opening, viewOf, openFault}
-use Rattle.lookup.specs.Lookup.{visitOf, better, afterVisit, answerOf, lookupFrom, searchOf, lookupOf}
+use Rattle.lookup.specs.Lookup.{visitOf, better, answerOf, lookupFrom, searchOf, lookupOf}
 use Rattle.lookup.specs.Bounds.{refuses}
-use Rattle.lookup.specs.declared.walk.Found.{Found}
 use Rattle.lookup.specs.declared.walk.Walked.{Walked}
 use Rattle.lookup.specs.declared.walk.Walked.the-variants.{Ran, Broken}
 use Rattle.lookup.specs.declared.lookup.Looked.the-variants.{Rule, Nothing, Refused}

@@ -1,10 +1,10 @@
 -- Laws of one test (`specs/Walk.antt`): what it leaves, as the code works it out. The rule number i and the run from a to
 -- before b are what was read at the middle place m.
 --     run-before-group, run-past-mid, run-short, run-to-end      the tests of a run in their order
---     step-beyond, step-astray, step-by                          no such rule; a run that may not be trusted; the test itself
+--     step-beyond, step-astray, step-by, step-told               no such rule; a run that may not be trusted; the test itself
 --     Trusted, trusted, trusted-stands                           a run that may be trusted, either way round
 --     Tested, test                                               the outcomes, with the facts that lead to each
---     Smaller, step-smaller                                      what is left is smaller
+--     Smaller, step-smaller, told-smaller                        what is left is smaller
 -- Assumes nothing.
 use Prim.Native.Nat.{ℕ, _+_, _-_, _≤_, _<_}
 use mathlib.Core.Bool.{Bool, true, false}
@@ -53,11 +53,11 @@ module _ (R : Rules) (v : View) (h : List ℕ) (s e f m n i : ℕ) (is-n : n ≡
 
   module _ (a b : ℕ) (is-a : a ≡ v .from m f) (is-b : b ≡ v .to m f) (rule : i < n) where
     -- its run may not be trusted
-    pub step-astray : runStands s e m a b ≡ false → stepAt R v h s e f m ≡ Fault
+    pub step-astray : (t : Bool) → t ≡ runStands s e m a b → t ≡ false → stepAt R v h s e f m ≡ Fault
     unfolding stepAt
-    step-astray astray =
+    step-astray t is-t astray =
         let under : v .order m < rulesIn R = omega arith in
-        rw (lt-ltb (v .order m) (rulesIn R) under, ← is-a, ← is-b, astray)
+        rw (lt-ltb (v .order m) (rulesIn R) under, ← is-a, ← is-b, ← is-t, astray)
 
     -- the test itself
     pub step-by : (x : Side) → runStands s e m a b ≡ true → x ≡ sideAt R h i f → stepAt R v h s e f m ≡ leaves x s e f a b
@@ -65,6 +65,10 @@ module _ (R : Rules) (v : View) (h : List ℕ) (s e f m n i : ℕ) (is-n : n ≡
     step-by x fine is-x =
         let under : v .order m < rulesIn R = omega arith in
         rw (lt-ltb (v .order m) (rulesIn R) under, ← is-a, ← is-b, fine, ← is-i, ← is-x)
+
+    -- the same, where callees told that the run may be trusted, and the outcome
+    pub step-told : (t : Bool) (y x : Side) → t ≡ runStands s e m a b → t ≡ true → y ≡ sideAt R h i f → y ≡ x → stepAt R v h s e f m ≡ leaves x s e f a b
+    step-told t y x is-t fine is-y is-x = step-by x (sym is-t ∙ fine) (sym is-x ∙ is-y)
 
 -- ---- what a test says
 -- a run that may be trusted
@@ -137,3 +141,7 @@ module _ (d s e f : ℕ) (some : s < e) (in-row : f < d) where
 
 pub step-smaller : (R : Rules) (v : View) (h : List ℕ) (d s e f s′ e′ f′ : ℕ) → s < e → f < d → stepOf R v h s e f ≡ On s′ e′ f′ → Smaller d s e f s′ e′ f′
 step-smaller R v h d s e f s′ e′ f′ some in-row is = smaller d s e f some in-row (test R v h s e f (midOf s e)) is
+
+-- where a callee told what the step is
+pub told-smaller : (R : Rules) (v : View) (h : List ℕ) (x : Step) (d s e f s′ e′ f′ : ℕ) → s < e → f < d → x ≡ stepOf R v h s e f → x ≡ On s′ e′ f′ → Smaller d s e f s′ e′ f′
+told-smaller R v h x d s e f s′ e′ f′ some in-row is-x is = step-smaller R v h d s e f s′ e′ f′ some in-row (sym is-x ∙ is)

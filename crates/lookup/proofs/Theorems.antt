@@ -19,6 +19,7 @@
 --        count-is-the-sum                 it is the sum of the partitions' tests
 --        partition-tests                  at most d + k in a partition of m rules, 2^k being the largest power of two within m
 --        total-tests                      so at most the sum of these
+--        size-has-k                       every partition has such a k
 --        empty-list-costs-none            of no rules: none, and no test
 --        bound-is-reached                 for every d and m a list and a header reach d + k
 --
@@ -57,7 +58,7 @@ use Rattle.lookup.proofs.Unread.{Agree, lookup-same}
 use Rattle.lookup.proofs.Refusing.{RefusedBy, refused-by, lookup-broken, lookup-fine}
 use Rattle.lookup.proofs.Lookups.{lookup-refused}
 use Rattle.lookup.proofs.Firsts.{lookup-first}
-use Rattle.lookup.proofs.Totals.{visit-tests, sum-le, lookup-sum, none-costs-none}
+use Rattle.lookup.proofs.Totals.{answer-tests, power-within, visit-tests, sum-le, lookup-sum, none-costs-none}
 use Rattle.lookup.proofs.Reached.{ladder-sound, ladder-rules, ladder-stands, ladder-parts, ladder-reaches}
 
 -- ---- 1. every answer and every refusal is the written one
@@ -89,13 +90,6 @@ pub numbers-past-d-unread : (R : Rules) (T h h′ : List ℕ) → Agree (fieldsO
 numbers-past-d-unread = lookup-same
 
 -- ---- 2. the match is the first match
-answer-tests : (R : Rules) (best t : ℕ) → testsIn (answerOf R best t) ≡ t
-answer-tests R best t = go (ltb best (rulesIn R))
-  where
-    go : (p : Bool) → testsIn (pick p (Rule best t) (Nothing t)) ≡ t
-    go true = refl
-    go false = refl
-
 -- the promise is all that the lookup layer relies on: whoever keeps it gets first match, however the table was made
 pub lookup-is-first-match : (R : Rules) (T : List ℕ) → Shaped R → TableFor (rulesIn R) (fieldsOf R) T → Promise R (viewOf R T) → (h : List ℕ)
     → lookupOf R T h ≡ answerOf R (firstMatch R h) (testsIn (lookupOf R T h))
@@ -160,6 +154,9 @@ module _ (R : Rules) (T h : List ℕ) where
 
   pub empty-list-costs-none : rulesIn R ≡ 0 → openFault R T .number ≡ 0 → lookupOf R T h ≡ Nothing 0
   empty-list-costs-none = none-costs-none R T h
+
+pub size-has-k : (m : ℕ) → 1 ≤ m → (k : ℕ) × PowerWithin m k
+size-has-k = power-within
 
 -- a list of m rules of d fields, which the build accepts and puts into one partition, and a header whose lookup makes d + k tests
 pub record Reached (d m k : ℕ) : Type 0 where

@@ -64,21 +64,21 @@ sum-le (suc k) q g f h =
     omega arith
 
 -- ---- the count
+pub answer-tests : (R : Rules) (best t : ℕ) → testsIn (answerOf R best t) ≡ t
+answer-tests R best t = go (ltb best (rulesIn R))
+  where
+    go : (p : Bool) → testsIn (pick p (Rule best t) (Nothing t)) ≡ t
+    go true = refl
+    go false = refl
+
 module _ (R : Rules) (v : View) (h : List ℕ) where
   -- what each visit adds
   abbrev added : ℕ → ℕ
   added q = testsOf (visitOf R v h q)
 
-  answer-tests : (best t : ℕ) → testsIn (answerOf R best t) ≡ t
-  answer-tests best t = go (ltb best (rulesIn R))
-    where
-      go : (p : Bool) → testsIn (pick p (Rule best t) (Nothing t)) ≡ t
-      go true = refl
-      go false = refl
-
   from-sum : (k q best t : ℕ) → refuses (lookupFrom R v h k q best t) ≡ false → testsIn (lookupFrom R v h k q best t) ≡ t + sumFrom k q added
   unfolding lookupFrom sumFrom
-  from-sum zero q best t fine = omega (arith, answer-tests best t)
+  from-sum zero q best t fine = omega (arith, answer-tests R best t)
   from-sum (suc k) q best t fine = go (visitOf R v h q) (from-sum k) fine
     where
       go : (w : Walked) → ((q best t : ℕ) → refuses (lookupFrom R v h k q best t) ≡ false → testsIn (lookupFrom R v h k q best t) ≡ t + sumFrom k q added)

@@ -7,26 +7,23 @@
 use Prim.Native.Nat.{ℕ, zero, suc, _+_, _<_}
 use mathlib.Core.Bool.{Bool, true, false}
 use mathlib.Core.List.{List}
-use mathlib.Core.Path.{_≡_, refl, sym, ap, _∙_}
+use mathlib.Core.Path.{_≡_, refl, sym, _∙_}
 use native.Mathlib.Omega.{arith}
 use lib.ListN.{getD}
 use lib.Dec.{leb}
 use borrow.Author.Tests.{leb-false}
-use Rattle.ranges.specs.Numbers.{pick, _and_, all}
-use Rattle.ranges.specs.Refusals.{stands}
-use Rattle.ranges.specs.Sides.{sideOf}
-use Rattle.lists.specs.Rules.{Rules, fieldsOf, rulesIn, lowOf, highOf}
+use Rattle.ranges.specs.Numbers.{pick, all}
+use Rattle.lists.specs.Rules.{Rules, fieldsOf, rulesIn}
 use Rattle.lists.specs.FirstMatch.{insideAt, fits}
 use Rattle.sorting.specs.Layout.{View}
-use Rattle.sorting.specs.Opening.{viewOf, openFault}
+use Rattle.sorting.specs.Opening.{viewOf}
 use Rattle.lookup.specs.Walk.{stepAt, stepOf, afterStep, arrivedOf, walkFrom}
-use Rattle.lookup.specs.Lookup.{visitOf, better, afterVisit, lookupFrom, searchOf, lookupOf}
+use Rattle.lookup.specs.Lookup.{visitOf, better, afterVisit, lookupFrom, lookupOf}
 use Rattle.lookup.specs.declared.walk.Found.the-variants.{Miss}
 use Rattle.lookup.specs.declared.walk.Walked.{Walked}
 use Rattle.lookup.specs.declared.walk.Walked.the-variants.{Ran, Broken}
 use Rattle.lookup.specs.declared.walk.Step.{Step}
 use Rattle.lookup.specs.declared.walk.Step.the-variants.{On, Fault}
-use Rattle.lookup.specs.declared.lookup.Looked.the-variants.{Refused}
 
 -- two headers agree on the first d numbers
 pub record Agree (d : ℕ) (h h′ : List ℕ) : Type 0 where

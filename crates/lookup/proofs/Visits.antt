@@ -1,10 +1,10 @@
 -- Laws of a partition visited and of all of them in order (`specs/Lookup.antt`).
 --     visit-none, visit-past, visit-walks      no place; an end past n; the walk
---     visit-few                                a partition's tests are at most 18
+--     visit-few, told-few                      a partition's tests are at most 18
 --     from-none, from-broken, from-on          no partition left; a broken one; one visited
 --     Visited, visited-..                      what `visit_all` keeps at its loop's head, its turn and its ways out
 -- Assumes nothing.
-use Prim.Native.Nat.{ℕ, zero, suc, _+_, _-_, _*_, min, _≤_, _<_}
+use Prim.Native.Nat.{ℕ, suc, _+_, _-_, _*_, min, _≤_, _<_}
 use mathlib.Core.Bool.{Bool, true, false}
 use mathlib.Core.List.{List}
 use mathlib.Core.Path.{_≡_, refl, sym, ap, _∙_}
@@ -17,14 +17,12 @@ use Rattle.ranges.specs.Refusals.{refused, BrokenTable}
 use Rattle.ranges.proofs.Numbers.{never}
 use Rattle.lists.specs.Rules.{Rules, fieldsOf, rulesIn}
 use Rattle.sorting.specs.Layout.{View}
-use Rattle.sorting.specs.Opening.{partStands}
 use Rattle.lookup.specs.Walk.{walkFrom}
-use Rattle.lookup.specs.Lookup.{visitOf, better, afterVisit, answerOf, lookupFrom}
+use Rattle.lookup.specs.Lookup.{visitOf, better, answerOf, lookupFrom}
 use Rattle.lookup.specs.declared.walk.Found.{Found}
 use Rattle.lookup.specs.declared.walk.Found.the-variants.{Hit, Miss}
 use Rattle.lookup.specs.declared.walk.Walked.{Walked}
 use Rattle.lookup.specs.declared.walk.Walked.the-variants.{Ran, Broken}
-use Rattle.lookup.specs.declared.lookup.Looked.{Looked}
 use Rattle.lookup.specs.declared.lookup.Looked.the-variants.{Rule, Nothing, Refused}
 use Rattle.lookup.proofs.Counts.{walk-few-18}
 
@@ -66,6 +64,10 @@ module _ (R : Rules) (v : View) (h : List ℕ) (q : ℕ) where
       let w = visited-walks x u is in
       let few : v .start (suc q) ≤ 1024 = omega arith in
       walk-few-18 R v h (suc (rulesIn R + fieldsOf R)) (v .start q) (v .start (suc q)) (w .some) few few-fields x u (w .walks)
+
+  -- where a callee told what the visit is
+  pub told-few : rulesIn R ≤ 1024 → fieldsOf R ≤ 8 → (w : Walked) (x : Found) (u : ℕ) → w ≡ visitOf R v h q → w ≡ Ran x u → u ≤ 18
+  told-few few-rules few-fields w x u is-w is = visit-few few-rules few-fields x u (sym is-w ∙ is)
 
 -- as the code works it out: s and e are the starts of q and of the next
 module _ (R : Rules) (v : View) (h : List ℕ) (n q s e : ℕ) (is-n : n ≡ rulesIn R) (is-s : s ≡ v .start q) (is-e : e ≡ v .start (q + 1)) where
@@ -118,8 +120,9 @@ visited-none R v h n b =
     }
 
 module _ {R : Rules} {v : View} {h : List ℕ} {n b q best t : ℕ} (seen : Visited R v h n b q best t) where
-  pub visited-broken : q < b → visitOf R v h q ≡ Broken → lookupFrom R v h b 0 n 0 ≡ Refused (refused BrokenTable)
-  visited-broken lt is = seen .rest (suc (b - q - 1)) (omega arith) ∙ from-broken R v h (b - q - 1) q best t is
+  -- w is what a callee told of the visit
+  pub visited-broken : q < b → (w : Walked) → w ≡ visitOf R v h q → w ≡ Broken → lookupFrom R v h b 0 n 0 ≡ Refused (refused BrokenTable)
+  visited-broken lt w is-w is = seen .rest (suc (b - q - 1)) (omega arith) ∙ from-broken R v h (b - q - 1) q best t (sym is-w ∙ is)
 
   pub visited-all : b ≤ q → lookupFrom R v h b 0 n 0 ≡ answerOf R best t
   visited-all le = seen .rest 0 (omega (arith, seen .in-order)) ∙ from-none R v h q best t
@@ -134,19 +137,22 @@ module _ {R : Rules} {v : View} {h : List ℕ} {n b q best t : ℕ} (seen : Visi
       }
 
   -- the same, by what was found
-  module _ (few-rules : rulesIn R ≤ 1024) (few-fields : fieldsOf R ≤ 8) (lt : q < b) (x : Found) (u : ℕ) (is : visitOf R v h q ≡ Ran x u) where
+  module _ (few-rules : rulesIn R ≤ 1024) (few-fields : fieldsOf R ≤ 8) (lt : q < b) (w : Walked) (x : Found) (u : ℕ) (is-w : w ≡ visitOf R v h q) (is : w ≡ Ran x u) where
+    pub visited-found : (y : Found) → x ≡ y → Visited R v h n b (q + 1) (better best y) (t + u)
+    visited-found y is-x = visited-more few-rules few-fields lt y u (sym is-w ∙ is ∙ ap (λ z. Ran z u) is-x)
+
     pub visited-miss : x ≡ Miss → Visited R v h n b (q + 1) best (t + u)
-    visited-miss is-x = visited-more few-rules few-fields lt Miss u (is ∙ ap (λ y. Ran y u) is-x)
+    visited-miss = visited-found Miss
 
     pub visited-sooner : (i : ℕ) → x ≡ Hit i → i < best → Visited R v h n b (q + 1) i (t + u)
     visited-sooner i is-x less =
         let first : min best i ≡ i = omega arith in
-        rw first at (visited-more few-rules few-fields lt (Hit i) u (is ∙ ap (λ y. Ran y u) is-x))
+        rw first at (visited-found (Hit i) is-x)
 
     pub visited-later : (i : ℕ) → x ≡ Hit i → best ≤ i → Visited R v h n b (q + 1) best (t + u)
     visited-later i is-x le =
         let first : min best i ≡ best = omega arith in
-        rw first at (visited-more few-rules few-fields lt (Hit i) u (is ∙ ap (λ y. Ran y u) is-x))
+        rw first at (visited-found (Hit i) is-x)
 
   -- all are visited: a match, or none
   pub visited-match : b ≤ q → n ≡ rulesIn R → best < n → lookupFrom R v h b 0 n 0 ≡ Rule best t

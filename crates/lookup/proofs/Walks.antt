@@ -54,14 +54,15 @@ module _ (R : Rules) (v : View) (h : List ℕ) (s e f t m : ℕ) (w : Walked) wh
   every-arrives some at-end is (suc k) lt = is ∙ sym (walk-arrives R v h k s e f t some at-end)
 
   module _ (some : s < e) (in-row : f < fieldsOf R) where
-    pub every-breaks : stepOf R v h s e f ≡ Fault → w ≡ Broken → Answers
-    every-breaks step is zero lt = absurd (omega arith)
-    every-breaks step is (suc k) lt = is ∙ sym (walk-breaks R v h k s e f t some in-row step)
+    -- x is what a callee told of the step
+    pub every-breaks : (x : Step) → x ≡ stepOf R v h s e f → x ≡ Fault → w ≡ Broken → Answers
+    every-breaks x is-x step is zero lt = absurd (omega arith)
+    every-breaks x is-x step is (suc k) lt = is ∙ sym (walk-breaks R v h k s e f t some in-row (sym is-x ∙ step))
 
-    pub every-on : (s′ e′ f′ m′ : ℕ) → stepOf R v h s e f ≡ On s′ e′ f′ → m′ < m
+    pub every-on : (x : Step) (s′ e′ f′ m′ : ℕ) → x ≡ stepOf R v h s e f → x ≡ On s′ e′ f′ → m′ < m
         → ((k : ℕ) → m′ < k → w ≡ walkFrom R v h k s′ e′ f′ (t + 1)) → Answers
-    every-on s′ e′ f′ m′ step falls rest zero lt = absurd (omega arith)
-    every-on s′ e′ f′ m′ step falls rest (suc k) lt = rest k (omega arith) ∙ sym (walk-on R v h k s e f t some in-row s′ e′ f′ step)
+    every-on x s′ e′ f′ m′ is-x step falls rest zero lt = absurd (omega arith)
+    every-on x s′ e′ f′ m′ is-x step falls rest (suc k) lt = rest k (omega arith) ∙ sym (walk-on R v h k s e f t some in-row s′ e′ f′ (sym is-x ∙ step))
 
 -- ---- what holds of every walk
 -- P says something of a walk's places s to before e, field f and tests t, and of what it answers

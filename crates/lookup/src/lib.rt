@@ -7,21 +7,25 @@
 // What it answers. `lookup` gives the smallest rule number that fits a header, or none, with the number of range tests
 // made; or a refusal, 1, 2, 3, 5 or 6. It never gives 4, since it does not read the whole list.
 //
-// The walk. A partition's places ascend, so one test at the middle place rules a part of them out. A group of places, at
-// first the whole partition, and a field, at first 0, shrink together. The header's number in this field is tested
-// against the rule at the middle of the group. Below: what lies from the middle's run on is ruled out. Above: what lies before the
-// run's end is. Inside: the run alone is left, and the next field decides. A run is the stretch of places whose rules
-// have the same ranges up to this field, so nothing that could still fit is lost.
+// The walk. A partition's places ascend, so that one test at a middle place rules out a part of them. The walk has a group
+// of places, at first the whole partition, and a field, at first 0. It tests the header's number in this field against the
+// rule at the middle of the group. Below: nothing from the middle's run on can fit. Above: nothing before the run's end can.
+// Inside: only the run can, and the next field decides. A run is the stretch of places whose rules have the same ranges up
+// to this field. What remains is the same walk on the smaller group or the next field: `walk` calls itself, and
+// group size plus remaining fields falls at each call.
 //
-// Why the count is d + k. A test that is below or above leaves at most half of the group, rounded down: this happens at
-// most k times in a partition of m rules, 2^k being the largest power of two within m, before a group is empty. A test
-// that is inside goes on to the next field: d times at most. The last test of a walk that ends in an empty group is one
-// of the d that were not inside. The split is at the middle rule: at the middle distinct range the answers
-// would be the same and the bound would be lost.
+// Why the count is d + k. In a partition of m rules let 2^k be the largest power of two within m. A test that is below or above leaves
+// at most half of the group, rounded down, so k of them leave at most one place and one more leaves none. A test that is
+// inside goes on to the next field. A hit takes d tests that are inside and at most k others. A miss takes at most k + 1
+// others and fewer than d that are inside, since its last test was made at a field and not inside. The split is at the middle
+// rule: at the middle distinct range the answers would be the same and this bound would be lost.
 //
-// What a broken table does. No number read from a table is trusted: a rule number must be below n, and a run must hold the
-// middle place and lie within the group, so that a group never grows and every read stays inside. At field d one place
-// must be left, and its rule is held against the header once more. Whatever fails refuses the whole call with 6. So
-// a rule that is returned fits, whatever the table.
+// What a broken table does. No number read from a table is trusted: a rule number has to be below n, and a run has to hold the
+// middle place and to lie within the group, so that a group never grows and every read stays inside. At field d one place has
+// to be left, and its rule is held against the header in all d fields once more. Whatever fails refuses the whole call with
+// 6. So a rule that is returned fits, whatever the table.
+//
+// What it costs. `walk` stays a call a test. It is passed its two slices by reference, since a slice would be copied at each
+// call, and answers in 16 bits a number, so that the answer is one word.
 pub mod lookup;
 pub mod walk;

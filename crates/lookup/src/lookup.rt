@@ -47,7 +47,7 @@ fn visit(shape: Shape, n: u16, list: &[u32], table: &[u16], header: &[u32; 8], q
     if n < e {
         return Walked::Broken;
     }
-    walk(shape, n, list, table, header, s, e, 0, 0)
+    walk(shape, n, &list, &table, header, s, e, 0, 0)
 }
 
 // Visits the partitions 0 to b - 1 in order: gives the smallest candidate, or none, with the sum of the tests; or refuses
@@ -58,7 +58,7 @@ fn visit_all(shape: Shape, n: u16, b: u16, list: &[u32], table: &[u16], header: 
     ensures { λ r. ⌜ r ≡ lookupFrom (listed shape (now (list .entry))) (view n (shape .d) (now (table .entry))) (now (header .entry)) b 0 n 0 ⌝ }
 {
     let mut q: u16 = 0;
-    let mut best = n as usize;
+    let mut best = n;
     let mut total: usize = 0;
     while q < b {
         let walked = visit(shape, n, list, table, header, q);
@@ -66,7 +66,7 @@ fn visit_all(shape: Shape, n: u16, b: u16, list: &[u32], table: &[u16], header: 
             return Looked::Refused(refuse(BROKEN_TABLE));
         };
         q += 1;
-        total += tests;
+        total += tests as usize;
         let Found::Hit(rule) = found else {
             continue;
         };
@@ -74,9 +74,9 @@ fn visit_all(shape: Shape, n: u16, b: u16, list: &[u32], table: &[u16], header: 
             best = rule;
         }
     }
-    if best < n as usize {
+    if best < n {
         return Looked::Rule {
-            rule: best,
+            rule: best as usize,
             tests: total,
         };
     }
@@ -93,6 +93,7 @@ pub fn lookup(shape: Shape, list: &[u32], table: &[u16], header: [u32; 8]) -> Lo
         return Looked::Refused(fault);
     }
     let n = rules_in(shape, list) as u16;
+    // 01, The working table: n, d, b.
     let b = table[2];
     visit_all(shape, n, b, list, table, &header)
 }

@@ -13,19 +13,19 @@ ghost use lib.ListN.{length, getD};
 ghost use Rattle.lists.specs.Rules.{listed, HasCell};
 ghost use Rattle.lists.specs.FirstMatch.{sideAt};
 ghost use Rattle.sorting.specs.Layout.{orderAt, fromAt, toAt, view};
-ghost use Rattle.lookup.specs.Lent.{Ready, Group};
+ghost use Rattle.lookup.specs.Lent.{Ready, Group, Going};
 ghost use Rattle.lookup.specs.Walk.{runStands, stepOf, arrivedOf, walkFrom};
 
 // What a walk finds in a partition.
 pub enum Found {
     // A rule, by its number.
-    Hit(usize),
+    Hit(u16),
     Miss,
 }
 
 // What a walk answers: what it found, with the tests made; or that the table is broken.
 pub enum Walked {
-    Ran(Found, usize),
+    Ran(Found, u16),
     Broken,
 }
 
@@ -98,7 +98,6 @@ fn one_step(
 ) -> Step
     requires { ⌜ Ready (listed shape (now list)) n (now table) ⌝ }
     requires { ⌜ Group n (shape .d) s e f ⌝ }
-    requires { ⌜ (s < e) × (f < shape .d) ⌝ }
     ensures { λ r. ⌜ r ≡ stepOf (listed shape (now (list .entry))) (view n (shape .d) (now (table .entry))) (now (header .entry)) s e f ⌝ }
 {
     let d = shape.d as u16;
@@ -134,7 +133,7 @@ fn arrive(
     header: &[u32; 8],
     s: u16,
     e: u16,
-    tests: usize,
+    tests: u16,
 ) -> Walked
     requires { ⌜ Ready (listed shape (now list)) n (now table) ⌝ }
     requires { ⌜ (s < e) × (e ≤ n) ⌝ }
@@ -147,34 +146,33 @@ fn arrive(
     if !rule_fits(shape, list, rule, *header) {
         return Walked::Broken;
     }
-    Walked::Ran(Found::Hit(rule as usize), tests)
+    Walked::Ran(Found::Hit(rule), tests)
 }
 
-// Walks on from places s to before e at field f, with some tests made: calls itself on a smaller group or the next
-// field, so that group size plus remaining fields falls at each call.
+// Walks on from places s to before e at field f, with some tests made: gives what it finds and all tests made, or a broken
+// table. Calls itself on a smaller group or the next field; group size plus remaining fields falls at each call.
 pub(crate) fn walk(
     shape: Shape,
     n: u16,
-    list: &[u32],
-    table: &[u16],
+    list: &&[u32],
+    table: &&[u16],
     header: &[u32; 8],
     s: u16,
     e: u16,
     f: u16,
-    tests: usize,
+    tests: u16,
 ) -> Walked
-    requires { ⌜ Ready (listed shape (now list)) n (now table) ⌝ }
-    requires { ⌜ Group n (shape .d) s e f ⌝ }
-    requires { ⌜ tests + (e - s) + (shape .d - f) ≤ 4096 ⌝ }
-    ensures { λ r. ⌜ ((k : ℕ) → (e - s) + (shape .d - f) < k → r ≡ walkFrom (listed shape (now (list .entry))) (view n (shape .d) (now (table .entry))) (now (header .entry)) k s e f tests) ⌝ }
+    requires { ⌜ Ready (listed shape (now (now list))) n (now (now table)) ⌝ }
+    requires { ⌜ Going n (shape .d) s e f tests ⌝ }
+    ensures { λ r. ⌜ ((k : ℕ) → (e - s) + (shape .d - f) < k → r ≡ walkFrom (listed shape (now (now (list .entry)))) (view n (shape .d) (now (now (table .entry)))) (now (header .entry)) k s e f tests) ⌝ }
 {
     if e <= s {
         return Walked::Ran(Found::Miss, tests);
     }
     if shape.d <= f as usize {
-        return arrive(shape, n, list, table, header, s, e, tests);
+        return arrive(shape, n, *list, *table, header, s, e, tests);
     }
-    let step = one_step(shape, n, list, table, header, s, e, f);
+    let step = one_step(shape, n, *list, *table, header, s, e, f);
     let Step::On { s, e, f } = step else {
         return Walked::Broken;
     };

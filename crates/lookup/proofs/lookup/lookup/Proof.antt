@@ -3,7 +3,6 @@
 -- Assumes nothing.
 use borrow.Author.Needs.{needs}
 use native.Mathlib.Omega.{arith}
-use Rattle.lists.specs.Rules.{listed}
 use Rattle.lookup.proofs.Lookups.{by-refused, by-parts-read, by-few, by-ready, by-parts, by-search}
 use Rattle.lookup.proofs.lookup.lookup.Statement.{statement}
 use Rattle.lookup.proofs.lookup.lookup.Tie as tie

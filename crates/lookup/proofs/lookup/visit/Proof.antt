@@ -45,7 +45,7 @@ walk-requires c κs = search needs
 -- the walk
 returns-3 : tie.Need-returns-3
 returns-3 c =
-    let tests = c .before in
+    let tests = c .before .before .before in
     let next = tests .before .before in
     let first = next .before in
     by-walk _ _ _ _ _ _ _ (first .before .before .before .pre .0 .rules) (first .start-of .ensures) (next .start-of2 .ensures) (tests .before .if1 .left)

@@ -2,14 +2,14 @@
 -- the answer (`Visits.antt`: `Visited`); the measure is how many are left. The total stays small: at most 18 tests a partition.
 -- Assumes nothing.
 use borrow.Author.Needs.{needs}
-use mathlib.Core.Path.{_≡_, refl, sym, ap, _∙_}
+use mathlib.Core.Path.{sym, ap, _∙_}
 use native.Mathlib.Omega.{arith}
-use Prim.Native.Nat.{_-_}
+use Prim.Native.Nat.{_-_, _≤_}
 use Rattle.lists.specs.Rules.{listed}
 use Rattle.sorting.specs.Layout.{view}
 use Rattle.lookup.specs.declared.lookup.Looked.the-variants.{Refused}
 use Rattle.lookup.proofs.Within.{few-rules}
-use Rattle.lookup.proofs.Visits.{Visited, visit-few, visited-none, visited-broken, visited-miss, visited-sooner, visited-later, visited-match, visited-nothing}
+use Rattle.lookup.proofs.Visits.{Visited, told-few, visited-none, visited-broken, visited-miss, visited-sooner, visited-later, visited-match, visited-nothing}
 use Rattle.lookup.proofs.lookup.visit_all.Statement.{statement}
 use Rattle.lookup.proofs.lookup.visit_all.Tie as tie
 use Rattle.lookup.proofs.lookup.visit_all.Reads as reads
@@ -45,22 +45,32 @@ returns c =
     let visited = told .before .before in
     let turn = visited .before in
     ap Refused (c .refuse .ensures)
-    ∙ sym (visited-broken (turn .before .loop .inv) (turn .loop-test .taken) (sym (visited .visit .ensures) ∙ told .enum-told .given .1))
+    ∙ sym (visited-broken (turn .before .loop .inv) (turn .loop-test .taken) _ (visited .visit .ensures) (told .enum-told .given .1))
 
 add-q : tie.Need-add-q Inv-loop μ-loop
 add-q c = search needs
 
-add-total : tie.Need-add-total Inv-loop μ-loop
-add-total c =
+-- a partition's tests are few
+tests-few : (c : tie.After-known-told Inv-loop μ-loop) → c .before .walked .given .0 .1 .0 ≤ 18
+tests-few c =
     let ran = c .before in
     let visited = ran .before .before in
     let turn = visited .before in
     let st = turn .before .before .before .before in
     let a = st .args in
     let R = listed (a .shape) (a .list .now) in
-    let u = ran .walked .given .0 .1 .0 in
-    let few = visit-few R (view (a .n) (a .shape .d) (a .table .now)) (a .header .now) (turn .before .loop .q) (few-rules R _ _ (st .pre .0)) (st .pre .0 .few-fields) _ u (sym (visited .visit .ensures) ∙ ran .walked .given .1) in
-    omega (arith, few, turn .before .loop .inv .few-tests, turn .loop-test .taken, st .pre .1, st .pre .0 .few-rules)
+    let lent = st .pre .0 in
+    told-few R (view (a .n) (a .shape .d) (a .table .now)) (a .header .now) (turn .before .loop .q) (few-rules R _ _ lent) (lent .few-fields) _ _ _
+    (visited .visit .ensures) (ran .walked .given .1)
+
+cast-total : tie.Need-cast-total Inv-loop μ-loop
+cast-total c = omega (arith, tests-few c)
+
+add-total : tie.Need-add-total Inv-loop μ-loop
+add-total c =
+    let turn = c .before .before .before .before in
+    let st = turn .before .before .before .before in
+    omega (arith, tests-few c, turn .before .loop .inv .few-tests, turn .loop-test .taken, st .pre .1, st .pre .0 .few-rules)
 
 enum-known-found : tie.Need-enum-known-found Inv-loop μ-loop
 enum-known-found c = search needs
@@ -78,8 +88,8 @@ loop-again c =
     let visited = ran .before .before in
     let turn = visited .before in
     let lent = turn .before .before .before .before .pre .0 in
-    visited-miss (turn .before .loop .inv) (few-rules _ _ _ lent) (lent .few-fields) (turn .loop-test .taken) _ _
-    (sym (visited .visit .ensures) ∙ ran .walked .given .1) (c .enum-told2 .given .1)
+    visited-miss (turn .before .loop .inv) (few-rules _ _ _ lent) (lent .few-fields) (turn .loop-test .taken) _ _ _
+    (visited .visit .ensures) (ran .walked .given .1) (c .enum-told2 .given .1)
 
 loop-less-2 : tie.Need-loop-less-2 Inv-loop μ-loop
 loop-less-2 c = search needs
@@ -92,8 +102,8 @@ loop-again-2 c =
     let visited = ran .before .before in
     let turn = visited .before in
     let lent = turn .before .before .before .before .pre .0 in
-    visited-sooner (turn .before .loop .inv) (few-rules _ _ _ lent) (lent .few-fields) (turn .loop-test .taken) _ _
-    (sym (visited .visit .ensures) ∙ ran .walked .given .1) _ (hit .found .given .1) (c .if1 .taken)
+    visited-sooner (turn .before .loop .inv) (few-rules _ _ _ lent) (lent .few-fields) (turn .loop-test .taken) _ _ _
+    (visited .visit .ensures) (ran .walked .given .1) _ (hit .found .given .1) (c .if1 .taken)
 
 loop-less-3 : tie.Need-loop-less-3 Inv-loop μ-loop
 loop-less-3 c = search needs
@@ -106,8 +116,11 @@ loop-again-3 c =
     let visited = ran .before .before in
     let turn = visited .before in
     let lent = turn .before .before .before .before .pre .0 in
-    visited-later (turn .before .loop .inv) (few-rules _ _ _ lent) (lent .few-fields) (turn .loop-test .taken) _ _
-    (sym (visited .visit .ensures) ∙ ran .walked .given .1) _ (hit .found .given .1) (c .if1 .left)
+    visited-later (turn .before .loop .inv) (few-rules _ _ _ lent) (lent .few-fields) (turn .loop-test .taken) _ _ _
+    (visited .visit .ensures) (ran .walked .given .1) _ (hit .found .given .1) (c .if1 .left)
+
+cast-t18 : tie.Need-cast-t18 Inv-loop μ-loop
+cast-t18 c = search needs
 
 -- a match
 returns-2 : tie.Need-returns-2 Inv-loop μ-loop
@@ -134,6 +147,7 @@ visit-all-spec =
     refuse-requires
     returns
     add-q
+    cast-total
     add-total
     enum-known-found
     enum-told-2
@@ -143,5 +157,6 @@ visit-all-spec =
     loop-again-2
     loop-less-3
     loop-again-3
+    cast-t18
     returns-2
     returns-3)

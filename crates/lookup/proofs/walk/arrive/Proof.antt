@@ -34,9 +34,6 @@ returns-2 c =
     (arrive-unfit _ _ _ _ _ _ _ (lent .some-fields) (lent .few-fields) (read .before .if1 .left) (read .rule-at .ensures)
     (sym (told .rule-fits .ensures) ∙ not-true _ (c .if2 .taken)))
 
-cast-t14 : tie.Need-cast-t14
-cast-t14 c = search needs
-
 -- the candidate
 returns-3 : tie.Need-returns-3
 returns-3 c =
@@ -48,4 +45,4 @@ returns-3 c =
     (sym (told .rule-fits .ensures) ∙ not-false _ (c .if2 .left)))
 
 pub arrive-spec : {M : Type 1} → statement M
-arrive-spec = tie.close (tie.spec add-if1 returns rule-at-requires rule-fits-requires returns-2 cast-t14 returns-3)
+arrive-spec = tie.close (tie.spec add-if1 returns rule-at-requires rule-fits-requires returns-2 returns-3)

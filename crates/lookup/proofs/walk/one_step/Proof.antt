@@ -3,7 +3,7 @@
 -- Assumes nothing.
 use borrow.Author.Needs.{needs}
 use borrow.Author.Tests.{not-true, not-false}
-use mathlib.Core.Path.{_≡_, sym, _∙_}
+use mathlib.Core.Path.{_≡_, sym}
 use native.Mathlib.Omega.{arith}
 use Rattle.ranges.specs.declared.side.Side.{Side}
 use Rattle.ranges.specs.declared.side.Side.the-variants.{Below, Above, Inside}
@@ -11,7 +11,7 @@ use Rattle.lists.specs.Rules.{listed}
 use Rattle.sorting.specs.Layout.{view}
 use Rattle.lookup.specs.Walk.{midOf, leaves, stepOf}
 use Rattle.lookup.proofs.Within.{order-read, from-read, to-read, cell-read}
-use Rattle.lookup.proofs.Steps.{step-beyond, step-astray, step-by}
+use Rattle.lookup.proofs.Steps.{step-beyond, step-astray, step-told}
 use Rattle.lookup.proofs.walk.one_step.Statement.{statement}
 use Rattle.lookup.proofs.walk.one_step.Tie as tie
 
@@ -38,12 +38,12 @@ returns c =
 run-from-requires : tie.Need-run-from-requires
 run-from-requires c κs =
     let st = c .before .before .before .before .before in
-    from-read (st .pre .0) (midOf (st .args .s) (st .args .e)) (st .args .f) (omega arith) (st .pre .1 .1 .1)
+    from-read (st .pre .0) (midOf (st .args .s) (st .args .e)) (st .args .f) (omega arith) (st .pre .1 .in-row)
 
 run-to-requires : tie.Need-run-to-requires
 run-to-requires c κs =
     let st = c .before .before .before .before .before .before in
-    to-read (st .pre .0) (midOf (st .args .s) (st .args .e)) (st .args .f) (omega arith) (st .pre .1 .1 .1)
+    to-read (st .pre .0) (midOf (st .args .s) (st .args .e)) (st .args .f) (omega arith) (st .pre .1 .in-row)
 
 run-stands-requires : tie.Need-run-stands-requires
 run-stands-requires c κs = search needs
@@ -58,13 +58,13 @@ returns-2 c =
     let read = under .before in
     sym
     (step-astray _ _ _ _ _ _ _ _ _ (read .before .before .before .before .pre .0 .rules) (read .rule-at .ensures) _ _ (from .run-from .ensures) (to .run-to .ensures)
-    (under .if1 .left) (sym (told .run-stands .ensures) ∙ not-true _ (c .if2 .taken)))
+    (under .if1 .left) _ (told .run-stands .ensures) (not-true _ (c .if2 .taken)))
 
 side-at-requires : tie.Need-side-at-requires
 side-at-requires c κs =
     let under = c .before .before .before .before in
     let st = under .before .before .before .before .before in
-    cell-read (st .pre .0) (under .before .rule-at .result) (st .args .f) (under .if1 .left) (st .pre .1 .1 .1)
+    cell-read (st .pre .0) (under .before .rule-at .result) (st .args .f) (under .if1 .left) (st .pre .1 .in-row)
 
 enum-told : tie.Need-enum-told
 enum-told c = search needs
@@ -90,8 +90,8 @@ by-side c x is-x =
     let under = from .before in
     let read = under .before in
     sym
-    (step-by _ _ _ _ _ _ _ _ _ (read .before .before .before .before .pre .0 .rules) (read .rule-at .ensures) _ _ (from .run-from .ensures) (to .run-to .ensures)
-    (under .if1 .left) x (sym (told .run-stands .ensures) ∙ not-false _ (c .before .if2 .left)) (sym is-x ∙ c .side-at .ensures))
+    (step-told _ _ _ _ _ _ _ _ _ (read .before .before .before .before .pre .0 .rules) (read .rule-at .ensures) _ _ (from .run-from .ensures) (to .run-to .ensures)
+    (under .if1 .left) _ _ x (told .run-stands .ensures) (not-false _ (c .before .if2 .left)) (c .side-at .ensures) is-x)
 
 -- below
 returns-3 : tie.Need-returns-3

@@ -1,0 +1,66 @@
+-- Any two results that a public function's contract allows for the same arguments are equal, and any two tables that it leaves: each
+-- contract is one equation, `r ≡ ..`, and one for the table. `Learnt` is what a caller learns of a call, as the checker reads it off the
+-- contract's `ensures`; `ps` and `r` are its parameters' and its result's types.
+-- Assumes nothing.
+use mathlib.Core.Path.{_≡_, sym, _∙_}
+use borrow.Fn.Kinds.{Dens, resT, endedOf}
+use contract.Lifetimes.{Lfts}
+use denote.Ref.{now}
+use denote.Triple.Clauses.{AtExit}
+use Rattle.ranges.proofs.OneAnswer.{OneAnswer}
+use Rattle.sorting.proofs.layout.table_length.Kinds as table-length-kinds
+use Rattle.sorting.proofs.layout.table_length.Reads as table-length
+use Rattle.sorting.proofs.layout.order_at.Kinds as order-at-kinds
+use Rattle.sorting.proofs.layout.order_at.Reads as order-at
+use Rattle.sorting.proofs.layout.start_at.Kinds as start-at-kinds
+use Rattle.sorting.proofs.layout.start_at.Reads as start-at
+use Rattle.sorting.proofs.layout.from_at.Kinds as from-at-kinds
+use Rattle.sorting.proofs.layout.from_at.Reads as from-at
+use Rattle.sorting.proofs.layout.to_at.Kinds as to-at-kinds
+use Rattle.sorting.proofs.layout.to_at.Reads as to-at
+use Rattle.sorting.proofs.layout.open_fault.Kinds as open-fault-kinds
+use Rattle.sorting.proofs.layout.open_fault.Reads as open-fault
+use Rattle.sorting.proofs.build.build_fault.Kinds as build-fault-kinds
+use Rattle.sorting.proofs.build.build_fault.Reads as build-fault
+use Rattle.sorting.proofs.build.build.Kinds as build-kinds
+use Rattle.sorting.proofs.build.build.Reads as build
+use Rattle.sorting.proofs.audit.audit.Kinds as audit-kinds
+use Rattle.sorting.proofs.audit.audit.Reads as audit
+use Rattle.sorting.proofs.report.report.Kinds as report-kinds
+use Rattle.sorting.proofs.report.report.Reads as report
+
+pub table-length-one : OneAnswer 0 table-length-kinds.ps table-length-kinds.r table-length.Learnt
+table-length-one κs a x y e g p q = p ∙ sym q
+
+pub order-at-one : OneAnswer 0 order-at-kinds.ps order-at-kinds.r order-at.Learnt
+order-at-one κs a x y e g p q = p ∙ sym q
+
+pub start-at-one : OneAnswer 0 start-at-kinds.ps start-at-kinds.r start-at.Learnt
+start-at-one κs a x y e g p q = p ∙ sym q
+
+pub from-at-one : OneAnswer 0 from-at-kinds.ps from-at-kinds.r from-at.Learnt
+from-at-one κs a x y e g p q = p ∙ sym q
+
+pub to-at-one : OneAnswer 0 to-at-kinds.ps to-at-kinds.r to-at.Learnt
+to-at-one κs a x y e g p q = p ∙ sym q
+
+pub open-fault-one : OneAnswer 2 open-fault-kinds.ps open-fault-kinds.r open-fault.Learnt
+open-fault-one κs a x y e g p q = p ∙ sym q
+
+pub build-fault-one : OneAnswer 2 build-fault-kinds.ps build-fault-kinds.r build-fault.Learnt
+build-fault-one κs a x y e g p q = p ∙ sym q
+
+pub build-one : OneAnswer 2 build-kinds.ps build-kinds.r build.Learnt
+build-one κs a x y e g p q = p .answers ∙ sym (q .answers)
+
+-- the table afterwards is one too
+pub build-table-one : (κs : Lfts 2) (a : Dens κs build-kinds.ps) (x y : resT build-kinds.r κs .Denot)
+    (e g : AtExit (endedOf 2 build-kinds.ps build-kinds.r) κs)
+    → build.Learnt κs a x e → build.Learnt κs a y g → now (e .1 .1 .0) ≡ now (g .1 .1 .0)
+build-table-one κs a x y e g p q = p .leaves ∙ sym (q .leaves)
+
+pub audit-one : OneAnswer 2 audit-kinds.ps audit-kinds.r audit.Learnt
+audit-one κs a x y e g p q = p ∙ sym q
+
+pub report-one : OneAnswer 2 report-kinds.ps report-kinds.r report.Learnt
+report-one κs a x y e g p q = p ∙ sym q
