@@ -10,16 +10,24 @@ use lib.Seq.{take-all}
 use Rattle.ranges.specs.declared.refusal.Count.{Count}
 use Rattle.ranges.specs.Prefixes.{boundsOf}
 use Rattle.ranges.specs.Blocks.{expandOf, runAfter}
+use Rattle.lists.specs.Rules.{Rules}
+use Rattle.sorting.specs.Build.{Built}
 use Rattle.text.specs.Texts.{bytes}
 use Rattle.text.specs.Puts.{Put}
 use Rattle.calls.specs.Said.{allSpaced, countSaid, boundsSaid}
-use Rattle.calls.specs.Words.{badSaid, p2rSaid, expandedSaid, r2pSaid}
+use Rattle.calls.specs.Words.{badSaid, buildSaid, p2rSaid, expandedSaid, r2pSaid}
 
 -- the rest of a run from a place on, as it is lent
 pub rest-lent : (xs : List ℕ) (a : ℕ) → take (length xs - a) (drop a xs) ≡ drop a xs
 rest-lent xs a =
     let all : length (drop a xs) ≤ length xs - a = omega (arith, length-drop a xs) in
     take-all (length xs - a) (drop a xs) all
+
+-- ---- build, lookup, audit, report
+-- the answer and the table as the library left them
+pub built-is : (R : Rules) (T : List ℕ) {count : Count} {after out : List ℕ} {at : ℕ} {last : List ℕ} {end : ℕ} → Built R T after count
+    → Put out at (countSaid count ++ bytes " table" ++ allSpaced after) last end → Put out at (buildSaid R T) last end
+built-is R T built put = rw (built .answers, built .leaves) at put
 
 -- ---- p2r
 module _ (ns : List ℕ) where

@@ -10,16 +10,17 @@ use Rattle.ranges.specs.Numbers.{pick}
 use Rattle.text.specs.Rows.{cellsIn, allNumbers, numbersOf, rowNext, keptAt}
 use Rattle.text.specs.declared.row.Row.{Row}
 use Rattle.calls.specs.declared.word.Word.{Word}
-use Rattle.calls.specs.declared.word.Word.the-variants.{Check, Scan, Independent, P2r, R2p, Unknown}
+use Rattle.calls.specs.declared.word.Word.the-variants.{Check, Scan, Independent, Table, P2r, R2p, Unknown}
 use Rattle.calls.specs.Lines.{Heard}
 use Rattle.calls.specs.Names.{wordOf}
-use Rattle.calls.specs.Words.{badSaid, checkSaid, scanSaid, independentSaid, p2rSaid, r2pSaid}
+use Rattle.calls.specs.Words.{badSaid, checkSaid, scanSaid, independentSaid, tabledSaid, p2rSaid, r2pSaid}
 
 -- what a call answers, given the line's numbers after its name
 abbrev pub wordSaid : Word → List ℕ → List ℕ
 wordSaid Check ns = checkSaid ns
 wordSaid Scan ns = scanSaid ns
 wordSaid Independent ns = independentSaid ns
+wordSaid (Table word) ns = tabledSaid word ns
 wordSaid P2r ns = p2rSaid ns
 wordSaid R2p ns = r2pSaid ns
 wordSaid Unknown ns = badSaid

@@ -7,7 +7,8 @@ use lib.Dec.{eqb}
 use Rattle.ranges.specs.Numbers.{pick, _and_}
 use Rattle.text.specs.Texts.{bytes}
 use Rattle.calls.specs.declared.word.Word.{Word}
-use Rattle.calls.specs.declared.word.Word.the-variants.{Check, Scan, Independent, P2r, R2p, Unknown}
+use Rattle.calls.specs.declared.word.Word.the-variants.{Check, Scan, Independent, Table, P2r, R2p, Unknown}
+use Rattle.calls.specs.declared.word.TableWord.the-variants.{Build, Lookup, Audit, Report}
 
 -- the same bytes
 abbrev pub alike : List ℕ → List ℕ → Bool
@@ -23,10 +24,19 @@ prefixWord name =
     (pick (alike name (bytes "r2p")) R2p
     Unknown)
 
+-- the calls of a list and a table, and those above
+unfoldable pub tableWord : List ℕ → Word
+tableWord name =
+    pick (alike name (bytes "build")) (Table Build)
+    (pick (alike name (bytes "lookup")) (Table Lookup)
+    (pick (alike name (bytes "audit")) (Table Audit)
+    (pick (alike name (bytes "report")) (Table Report)
+    (prefixWord name))))
+
 -- which call a name asks for
 unfoldable pub wordOf : List ℕ → Word
 wordOf name =
     pick (alike name (bytes "check")) Check
     (pick (alike name (bytes "scan")) Scan
     (pick (alike name (bytes "independent")) Independent
-    (prefixWord name)))
+    (tableWord name)))

@@ -1,15 +1,19 @@
 -- The parts of a line's numbers, by their places. LIST, TABLE and RUN are a length and then that many numbers, HEADER is
 -- eight numbers. Numbers that are not as a part wants them have no end for it.
 -- Assumes nothing: these are definitions.
-use Prim.Native.Nat.{ℕ, _+_, _-_}
+use Prim.Native.Nat.{ℕ, _+_, _-_, _≤_}
 use mathlib.Core.List.{List}
+use mathlib.Core.Path.{_≡_}
 use lib.ListN.{length, getD, take, drop}
+use mathlib.Core.Bool.{Bool, true}
 use lib.Dec.{ltb, leb, eqb}
-use Rattle.ranges.specs.Numbers.{pick}
+use Rattle.ranges.specs.Numbers.{pick, all}
 use Rattle.lists.specs.declared.shape.Shape.{Shape}
 use Rattle.lists.specs.Rules.{Rules, listed}
 use Rattle.calls.specs.declared.part.End.{End}
 use Rattle.calls.specs.declared.part.End.the-variants.{At, Missing}
+use Rattle.calls.specs.declared.part.Ends.{Ends}
+use Rattle.calls.specs.declared.part.Ends.the-variants.{At as Both, Missing as Neither}
 
 -- the numbers from place a to before place e
 abbrev pub between : ℕ → ℕ → List ℕ → List ℕ
@@ -34,9 +38,31 @@ unfoldable pub listEnd : List ℕ → ℕ → End
 listEnd ns more = exactly ns more (runEnd 16500 ns 1)
 
 -- what follows where a part ends, else the other
-abbrev pub onEnd : End → (ℕ → List ℕ) → List ℕ → List ℕ
+abbrev pub onEnd : {A : Type 0} → End → (ℕ → A) → A → A
 onEnd (At e) next other = next e
 onEnd Missing next other = other
+
+-- every number is one of 16 bits
+unfoldable pub allNarrow : List ℕ → Bool
+allNarrow ns = all (length ns) (λ k. leb (getD ns k 0) 65535)
+
+-- where the list and the table of D LIST TABLE end, with exactly so many numbers more after them; a table has at most
+-- 18500 numbers, of 16 bits
+unfoldable pub tableEnds : List ℕ → ℕ → Ends
+tableEnds ns more =
+    onEnd (runEnd 16500 ns 1)
+    (λ e. onEnd (exactly ns more (runEnd 18500 ns e)) (λ t. pick (allNarrow (between (e + 1) t ns)) (Both e t) Neither) Neither)
+    Neither
+
+-- what a call of a list and a table asks of its table's numbers and of those that follow
+pub record Tabled (numbers rest : List ℕ) (more : ℕ) : Type 0 where
+  pub few : length numbers ≤ 18500
+  pub narrow : allNarrow numbers ≡ true
+  pub follow : length rest ≡ more
+
+abbrev pub onEnds : Ends → (ℕ → ℕ → List ℕ) → List ℕ → List ℕ
+onEnds (Both e t) next other = next e t
+onEnds Neither next other = other
 
 -- D, and the list with it
 abbrev pub shapeIn : List ℕ → Shape

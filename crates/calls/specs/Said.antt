@@ -11,6 +11,12 @@ use Rattle.lists.specs.declared.scan.Match.{Match}
 use Rattle.lists.specs.declared.scan.Match.the-variants.{Rule, Nothing, Refused as NoMatch}
 use Rattle.lists.specs.declared.independence.Pair.{Pair}
 use Rattle.lists.specs.declared.independence.Pair.the-variants.{Independent, Both, Refused as NoPair}
+use Rattle.lookup.specs.declared.lookup.Looked.{Looked}
+use Rattle.lookup.specs.declared.lookup.Looked.the-variants.{Rule as Found, Nothing as NotFound, Refused as NoLook}
+use Rattle.sorting.specs.declared.audit.Verdict.{Verdict}
+use Rattle.sorting.specs.declared.audit.Verdict.the-variants.{Yes, No, Refused as NoVerdict}
+use Rattle.sorting.specs.declared.report.Part.{Part}
+use Rattle.sorting.specs.declared.report.Part.the-variants.{Is as PartIs, Refused as NoPart}
 use Rattle.text.specs.Texts.{bytes}
 use Rattle.text.specs.Puts.{decimalOf}
 
@@ -48,3 +54,20 @@ abbrev pub pairSaid : Pair → List ℕ
 pairSaid Independent = bytes "ok yes"
 pairSaid (Both i j) = bytes "ok no" ++ spaced i ++ spaced j
 pairSaid (NoPair x) = refusedSaid x
+
+-- ok RULE TESTS, ok none TESTS, or the refusal
+abbrev pub lookedSaid : Looked → List ℕ
+lookedSaid (Found i t) = bytes "ok" ++ spaced i ++ spaced t
+lookedSaid (NotFound t) = bytes "ok none" ++ spaced t
+lookedSaid (NoLook x) = refusedSaid x
+
+-- ok yes, ok no, or the refusal
+abbrev pub verdictSaid : Verdict → List ℕ
+verdictSaid Yes = bytes "ok yes"
+verdictSaid No = bytes "ok no"
+verdictSaid (NoVerdict x) = refusedSaid x
+
+-- ok SIZE SMALLEST, or the refusal
+abbrev pub partSaid : Part → List ℕ
+partSaid (PartIs size least) = bytes "ok" ++ spaced size ++ spaced least
+partSaid (NoPart x) = refusedSaid x

@@ -12,9 +12,15 @@ use Rattle.ranges.specs.Blocks.{expandOf, runAfter}
 use Rattle.lists.specs.Check.{checkOf}
 use Rattle.lists.specs.Scan.{scanOf}
 use Rattle.lists.specs.Independence.{independenceOf}
+use Rattle.sorting.specs.Build.{buildOf, tableAfter, auditOf}
+use Rattle.sorting.specs.Report.{reportOf}
+use Rattle.lookup.specs.Lookup.{lookupOf}
+use Rattle.lists.specs.Rules.{Rules}
 use Rattle.text.specs.Texts.{bytes}
-use Rattle.calls.specs.Said.{allSpaced, countSaid, boundsSaid, matchSaid, pairSaid}
-use Rattle.calls.specs.Parts.{listEnd, onEnd, rulesTo, headerAt}
+use Rattle.calls.specs.Said.{allSpaced, countSaid, boundsSaid, matchSaid, pairSaid, lookedSaid, verdictSaid, partSaid}
+use Rattle.calls.specs.Parts.{between, listEnd, onEnd, tableEnds, onEnds, rulesTo, headerAt}
+use Rattle.calls.specs.declared.word.TableWord.{TableWord}
+use Rattle.calls.specs.declared.word.TableWord.the-variants.{Build, Lookup, Audit, Report}
 
 -- bad
 abbrev pub badSaid : List ℕ
@@ -32,6 +38,41 @@ scanSaid ns = onEnd (listEnd ns 8) (λ e. matchSaid (scanOf (rulesTo e ns) (head
 abbrev pub independentSaid : List ℕ → List ℕ
 independentSaid ns = onEnd (listEnd ns 0) (λ e. pairSaid (independenceOf (rulesTo e ns))) badSaid
 
+-- ---- build D LIST TABLE, lookup D LIST TABLE HEADER, audit D LIST TABLE, report D LIST TABLE P
+-- how many numbers follow the table
+abbrev pub following : TableWord → ℕ
+following Build = 0
+following Lookup = 8
+following Audit = 0
+following Report = 1
+
+-- ok B or the refusal, and then the table's numbers afterwards
+abbrev pub buildSaid : Rules → List ℕ → List ℕ
+buildSaid R T = countSaid (buildOf R T) ++ bytes " table" ++ allSpaced (tableAfter R T)
+
+abbrev pub lookupSaid : Rules → List ℕ → List ℕ → List ℕ
+lookupSaid R T h = lookedSaid (lookupOf R T h)
+
+abbrev pub auditSaid : Rules → List ℕ → List ℕ
+auditSaid R T = verdictSaid (auditOf R T)
+
+abbrev pub reportSaid : Rules → List ℕ → ℕ → List ℕ
+reportSaid R T p = partSaid (reportOf R T p)
+
+-- what is answered of a list, a table and the numbers that follow
+abbrev pub tableSaid : TableWord → Rules → List ℕ → List ℕ → List ℕ
+tableSaid Build R T rest = buildSaid R T
+tableSaid Lookup R T rest = lookupSaid R T rest
+tableSaid Audit R T rest = auditSaid R T
+tableSaid Report R T rest = reportSaid R T (getD rest 0 0)
+
+abbrev pub tabledSaid : TableWord → List ℕ → List ℕ
+tabledSaid word ns =
+    onEnds (tableEnds ns (following word))
+    (λ e t. tableSaid word (rulesTo e ns) (between (e + 1) t ns) (between t (t + following word) ns))
+    badSaid
+
+-- ---- prefixes and ranges
 -- p2r VALUE LENGTH WIDTH
 unfoldable pub p2rSaid : List ℕ → List ℕ
 p2rSaid ns = pick (eqb (length ns) 3) (boundsSaid (boundsOf (getD ns 2 0) (getD ns 0 0) (getD ns 1 0))) badSaid

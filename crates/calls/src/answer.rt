@@ -6,6 +6,7 @@ use crate::list_words::call_scan;
 use crate::prefix_words::call_p2r;
 use crate::prefix_words::call_r2p;
 use crate::say::put_bad;
+use crate::table_words::call_table;
 use crate::word::Word;
 use crate::word::word_of;
 use text::put::put_byte;
@@ -23,6 +24,7 @@ fn put_word(word: Word, given: &mut [u32], out: &mut [u8], at: usize) -> usize
         Word::Check => call_check(given, out, at),
         Word::Scan => call_scan(given, out, at),
         Word::Independent => call_independent(given, out, at),
+        Word::Table(call) => call_table(call, given, out, at),
         Word::P2r => call_p2r(given, out, at),
         Word::R2p => call_r2p(given, out, at),
         Word::Unknown => put_bad(out, at),

@@ -3,19 +3,23 @@
 //
 //     check D LIST                 ok N
 //     scan D LIST HEADER           ok RULE | ok none
+//     build D LIST TABLE           ok B | refused ..       and then, either way, " table" and the table's numbers afterwards
+//     lookup D LIST TABLE HEADER   ok RULE TESTS | ok none TESTS
+//     audit D LIST TABLE           ok yes | ok no
+//     report D LIST TABLE P        ok SIZE SMALLEST
 //     independent D LIST           ok yes | ok no I J
 //     p2r VALUE LENGTH WIDTH       ok LOW HIGH
 //     r2p LOW HIGH WIDTH RUN       ok COUNT | refused ..   and then, either way, " run" and the run's numbers afterwards
 //     any refusal                  refused NUMBER FIRST SECOND
 //     anything else                bad
 //
-// Words are parted by single blanks, and LF ends a line; what follows the last LF, if anything, is a line too. LIST and
-// RUN are a length, at most 16500 and 200, and then that many numbers; HEADER is eight numbers. Numbers are plain
-// decimals without leading zeros, 0 to 4294967295.
+// Words are parted by single blanks, and LF ends a line; what follows the last LF, if anything, is a line too. LIST, TABLE
+// and RUN are a length, at most 16500, 18500 and 200, and then that many numbers; HEADER is eight numbers. Numbers are
+// plain decimals without leading zeros, 0 to 4294967295, those of a table to 65535.
 //
 // A line may be of any length and may come in pieces: it is heard byte by byte (`line`), its numbers go to a lent run,
 // and once it has ended its word decides what is made of them (`word`, `answer`). A word is one small function
-// (`list_words`, `prefix_words`): it finds the parts of the line's numbers by their places (`part`), calls the library,
+// (`list_words`, `table_words`, `prefix_words`): it finds the parts of the line's numbers by their places (`part`), calls the library,
 // and puts the answer's text (`say`) into the run of bytes that is written out. Only `read` and `write` are the
 // system's; all else is proved on slices.
 mod answer;
@@ -25,6 +29,7 @@ mod part;
 mod prefix_words;
 mod say;
 mod serve;
+mod table_words;
 mod word;
 
 use serve::serve_all;

@@ -1,10 +1,11 @@
 // The parts of a line's numbers, by their places: D is the first; LIST, TABLE and RUN are a length and then that many
 // numbers; HEADER is eight numbers.
 use lists::shape::Shape;
+ghost use mathlib.Core.Bool.{true};
 ghost use mathlib.Core.Path.{_≡_};
 ghost use Prim.Native.Nat.{_<_};
 ghost use lib.ListN.{length};
-ghost use Rattle.calls.specs.Parts.{runEnd, exactly, listEnd, shapeIn};
+ghost use Rattle.calls.specs.Parts.{runEnd, exactly, listEnd, allNarrow, tableEnds, shapeIn};
 
 // Where a part ends: the place after its last number. Missing, where the numbers are not as the part wants them.
 pub enum End {
@@ -51,6 +52,58 @@ pub fn list_end(given: &[u32], more: usize) -> End
 {
     let end = run_end(16500, given, 1);
     exact(end, given, more)
+}
+
+// Where a list and the table after it end.
+pub enum Ends {
+    At(usize, usize),
+    Missing,
+}
+
+// Says whether every number of a run is one of 16 bits.
+fn all_narrow(numbers: &[u32]) -> bool
+    ensures { λ r. ⌜ r ≡ allNarrow (now (numbers .entry)) ⌝ }
+{
+    let mut i = 0;
+    while i < numbers.len() {
+        if 65535 < numbers[i] {
+            return false;
+        }
+        i += 1;
+    }
+    true
+}
+
+// Says where the list and the table of D LIST TABLE end, with exactly so many numbers more after them.
+pub fn table_ends(given: &[u32], more: usize) -> Ends
+    ensures { λ r. ⌜ r ≡ tableEnds (now (given .entry)) more ⌝ }
+{
+    let first = run_end(16500, given, 1);
+    let End::At(e) = first else {
+        return Ends::Missing;
+    };
+    let second = exact(run_end(18500, given, e), given, more);
+    let End::At(t) = second else {
+        return Ends::Missing;
+    };
+    let from = e + 1;
+    if all_narrow(&given[from..t]) {
+        return Ends::At(e, t);
+    }
+    Ends::Missing
+}
+
+// Writes numbers of 16 bits to a table of as many.
+pub fn narrow(numbers: &[u32], table: &mut [u16])
+    requires { ⌜ length (now table) ≡ length (now numbers) ⌝ }
+    requires { ⌜ allNarrow (now numbers) ≡ true ⌝ }
+    ensures { λ r. ⌜ now (table .exit) ≡ now (numbers .entry) ⌝ }
+{
+    let mut i = 0;
+    while i < numbers.len() {
+        table[i] = numbers[i] as u16;
+        i += 1;
+    }
 }
 
 // Gives the shape of D.

@@ -2,16 +2,19 @@
 // numbers, each after a blank.
 use lists::independence::Pair;
 use lists::scan::Match;
+use lookup::lookup::Looked;
 use ranges::prefix::Bounds;
 use ranges::refusal::Count;
 use ranges::refusal::Refusal;
+use sorting::audit::Verdict;
+use sorting::report::Part;
 use text::put::put_byte;
 use text::put::put_number;
 use text::put::put_text;
 ghost use mathlib.Core.Path.{_≡_};
 ghost use Rattle.text.specs.Texts.{bytes};
 ghost use Rattle.text.specs.Puts.{Put};
-ghost use Rattle.calls.specs.Said.{spaced, allSpaced, refusedSaid, countSaid, boundsSaid, matchSaid, pairSaid};
+ghost use Rattle.calls.specs.Said.{spaced, allSpaced, refusedSaid, countSaid, boundsSaid, matchSaid, pairSaid, lookedSaid, verdictSaid, partSaid};
 
 // Puts a blank and a number.
 pub fn put_spaced(n: u64, out: &mut [u8], at: usize) -> usize
@@ -36,6 +39,26 @@ pub fn put_all(numbers: &[u32], out: &mut [u8], at: usize) -> usize
 
 // Gives a number as one of 64 bits.
 fn wide(n: u32) -> u64
+    ensures { λ r. ⌜ r ≡ n ⌝ }
+{
+    n as u64
+}
+
+// Puts each number of a table after a blank.
+pub fn put_table(numbers: &[u16], out: &mut [u8], at: usize) -> usize
+    ensures { λ r. ⌜ Put (now (out .entry)) at (allSpaced (now (numbers .entry))) (now (out .exit)) r ⌝ }
+{
+    let mut place = at;
+    let mut i = 0;
+    while i < numbers.len() {
+        place = put_spaced(wide16(numbers[i]), out, place);
+        i += 1;
+    }
+    place
+}
+
+// Gives a number of 16 bits as one of 64.
+fn wide16(n: u16) -> u64
     ensures { λ r. ⌜ r ≡ n ⌝ }
 {
     n as u64
@@ -111,5 +134,48 @@ pub fn put_pair(pair: Pair, out: &mut [u8], at: usize) -> usize
             put_spaced(j as u64, out, b)
         }
         Pair::Refused(x) => put_refused(x, out, at),
+    }
+}
+
+// Puts the first match, or none, and the tests made, or the refusal.
+pub fn put_looked(looked: Looked, out: &mut [u8], at: usize) -> usize
+    ensures { λ r. ⌜ Put (now (out .entry)) at (lookedSaid looked) (now (out .exit)) r ⌝ }
+{
+    match looked {
+        Looked::Rule { rule, tests } => {
+            let a = put_text(b"ok", out, at);
+            let b = put_spaced(rule as u64, out, a);
+            put_spaced(tests as u64, out, b)
+        }
+        Looked::Nothing { tests } => {
+            let a = put_text(b"ok none", out, at);
+            put_spaced(tests as u64, out, a)
+        }
+        Looked::Refused(x) => put_refused(x, out, at),
+    }
+}
+
+// Puts yes or no, or the refusal.
+pub fn put_verdict(verdict: Verdict, out: &mut [u8], at: usize) -> usize
+    ensures { λ r. ⌜ Put (now (out .entry)) at (verdictSaid verdict) (now (out .exit)) r ⌝ }
+{
+    match verdict {
+        Verdict::Yes => put_text(b"ok yes", out, at),
+        Verdict::No => put_text(b"ok no", out, at),
+        Verdict::Refused(x) => put_refused(x, out, at),
+    }
+}
+
+// Puts a partition's size and its smallest rule number, or the refusal.
+pub fn put_part(part: Part, out: &mut [u8], at: usize) -> usize
+    ensures { λ r. ⌜ Put (now (out .entry)) at (partSaid part) (now (out .exit)) r ⌝ }
+{
+    match part {
+        Part::Is { size, least } => {
+            let a = put_text(b"ok", out, at);
+            let b = put_spaced(size as u64, out, a);
+            put_spaced(least as u64, out, b)
+        }
+        Part::Refused(x) => put_refused(x, out, at),
     }
 }

@@ -1,12 +1,21 @@
 // The names of the calls.
 ghost use mathlib.Core.Path.{_≡_};
-ghost use Rattle.calls.specs.Names.{prefixWord, wordOf};
+ghost use Rattle.calls.specs.Names.{prefixWord, tableWord, wordOf};
+
+// The calls of a list and a table.
+pub enum TableWord {
+    Build,
+    Lookup,
+    Audit,
+    Report,
+}
 
 // What a line's first word asks for.
 pub enum Word {
     Check,
     Scan,
     Independent,
+    Table(TableWord),
     P2r,
     R2p,
     Unknown,
@@ -24,6 +33,25 @@ pub fn word_of(name: &[u8]) -> Word
     }
     if check::same(name, b"independent") {
         return Word::Independent;
+    }
+    table_word(name)
+}
+
+// Says which of the calls of a list and a table a name asks for, or of those that are left.
+fn table_word(name: &[u8]) -> Word
+    ensures { λ r. ⌜ r ≡ tableWord (now (name .entry)) ⌝ }
+{
+    if check::same(name, b"build") {
+        return Word::Table(TableWord::Build);
+    }
+    if check::same(name, b"lookup") {
+        return Word::Table(TableWord::Lookup);
+    }
+    if check::same(name, b"audit") {
+        return Word::Table(TableWord::Audit);
+    }
+    if check::same(name, b"report") {
+        return Word::Table(TableWord::Report);
     }
     prefix_word(name)
 }

@@ -22,6 +22,12 @@ enum-told-3 c = search needs
 call-independent-requires : tie.Need-call-independent-requires
 call-independent-requires c κs = search needs
 
+enum-known-word : tie.Need-enum-known-word
+enum-known-word c = search needs
+
+call-table-requires : tie.Need-call-table-requires
+call-table-requires c κs = search needs
+
 enum-told-4 : tie.Need-enum-told-4
 enum-told-4 c = search needs
 
@@ -74,7 +80,7 @@ same-length-8 : tie.Need-same-length-8
 same-length-8 c = search needs
 
 returns-4 : tie.Need-returns-4
-returns-4 c = rw (c .before .before .before .before .before .enum-told4 .given .1) (c .before .before .call-p2r .ensures)
+returns-4 c = rw (c .before .before .before .before .before .before .word .given .1) (c .before .before .call-table .ensures)
 
 same-length-9 : tie.Need-same-length-9
 same-length-9 c = search needs
@@ -83,13 +89,22 @@ same-length-10 : tie.Need-same-length-10
 same-length-10 c = search needs
 
 returns-5 : tie.Need-returns-5
-returns-5 c = rw (c .before .before .before .before .before .before .before .enum-told5 .given .1) (c .before .before .before .before .call-r2p .ensures)
+returns-5 c = rw (c .before .before .before .before .before .enum-told4 .given .1) (c .before .before .call-p2r .ensures)
 
 same-length-11 : tie.Need-same-length-11
 same-length-11 c = search needs
 
+same-length-12 : tie.Need-same-length-12
+same-length-12 c = search needs
+
 returns-6 : tie.Need-returns-6
-returns-6 c = rw (c .before .before .before .before .enum-told6 .given .1) (c .before .before .put-bad .ensures)
+returns-6 c = rw (c .before .before .before .before .before .before .before .enum-told5 .given .1) (c .before .before .before .before .call-r2p .ensures)
+
+same-length-13 : tie.Need-same-length-13
+same-length-13 c = search needs
+
+returns-7 : tie.Need-returns-7
+returns-7 c = rw (c .before .before .before .before .enum-told6 .given .1) (c .before .before .put-bad .ensures)
 
 pub put-word-spec : {M : Type 1} → statement M
 put-word-spec =
@@ -101,6 +116,8 @@ put-word-spec =
     call-scan-requires
     enum-told-3
     call-independent-requires
+    enum-known-word
+    call-table-requires
     enum-told-4
     call-p2r-requires
     enum-told-5
@@ -123,4 +140,7 @@ put-word-spec =
     same-length-10
     returns-5
     same-length-11
-    returns-6)
+    same-length-12
+    returns-6
+    same-length-13
+    returns-7)

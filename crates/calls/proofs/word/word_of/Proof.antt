@@ -46,8 +46,8 @@ returns-3 c =
     let name = first .before .before .before .before .args .name .now in
     rw (alike-is name (bytes "check") (first .before .same .ensures) (first .if1 .left), alike-is name (bytes "scan") (second .before .same2 .ensures) (second .if2 .left), alike-is name (bytes "independent") (c .before .same3 .ensures) (c .if3 .taken))
 
-prefix-word-requires : tie.Need-prefix-word-requires
-prefix-word-requires c κs = search needs
+table-word-requires : tie.Need-table-word-requires
+table-word-requires c κs = search needs
 
 returns-4 : tie.Need-returns-4
 unfolding wordOf
@@ -56,7 +56,7 @@ returns-4 c =
     let second = third .before .before .before in
     let first = second .before .before .before in
     let name = first .before .before .before .before .args .name .now in
-    rw (alike-is name (bytes "check") (first .before .same .ensures) (first .if1 .left), alike-is name (bytes "scan") (second .before .same2 .ensures) (second .if2 .left), alike-is name (bytes "independent") (third .before .same3 .ensures) (third .if3 .left)) (c .prefix-word .ensures)
+    rw (alike-is name (bytes "check") (first .before .same .ensures) (first .if1 .left), alike-is name (bytes "scan") (second .before .same2 .ensures) (second .if2 .left), alike-is name (bytes "independent") (third .before .same3 .ensures) (third .if3 .left)) (c .table-word .ensures)
 
 pub word-of-spec : {M : Type 1} → statement M
 word-of-spec =
@@ -71,5 +71,5 @@ word-of-spec =
     slice-aggregate-same-3
     same-requires-3
     returns-3
-    prefix-word-requires
+    table-word-requires
     returns-4)

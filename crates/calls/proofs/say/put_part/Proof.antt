@@ -1,0 +1,57 @@
+-- `calls::say::put_part` meets its contract, case by case.
+-- Assumes nothing.
+use borrow.Author.Needs.{needs}
+use Rattle.text.proofs.Puts.{put-then}
+use Rattle.calls.proofs.say.put_part.Statement.{statement}
+use Rattle.calls.proofs.say.put_part.Tie as tie
+
+enum-known-part : tie.Need-enum-known-part
+enum-known-part c = search needs
+
+slice-aggregate-put-text : tie.Need-slice-aggregate-put-text
+slice-aggregate-put-text c = search needs
+
+put-text-requires : tie.Need-put-text-requires
+put-text-requires c κs = search needs
+
+put-spaced-requires : tie.Need-put-spaced-requires
+put-spaced-requires c κs = search needs
+
+put-spaced-requires-2 : tie.Need-put-spaced-requires-2
+put-spaced-requires-2 c κs = search needs
+
+enum-known-part-2 : tie.Need-enum-known-part-2
+enum-known-part-2 c = search needs
+
+put-refused-requires : tie.Need-put-refused-requires
+put-refused-requires c κs = search needs
+
+same-length : tie.Need-same-length
+same-length c = search needs
+
+-- a partition
+returns : tie.Need-returns
+returns c = rw (c .before .before .before .before .before .before .before .before .before .before .before .before .before .before .part .given .1) (put-then (put-then (c .before .before .before .before .before .before .before .before .before .before .put-text .ensures) (c .before .before .before .before .before .before .put-spaced .ensures)) (c .before .before .put-spaced2 .ensures))
+
+same-length-2 : tie.Need-same-length-2
+same-length-2 c = search needs
+
+-- a refusal
+returns-2 : tie.Need-returns-2
+returns-2 c = rw (c .before .before .before .before .before .part2 .given .1) (c .before .before .put-refused .ensures)
+
+pub put-part-spec : {M : Type 1} → statement M
+put-part-spec =
+    tie.close
+    (tie.spec
+    enum-known-part
+    slice-aggregate-put-text
+    put-text-requires
+    put-spaced-requires
+    put-spaced-requires-2
+    enum-known-part-2
+    put-refused-requires
+    same-length
+    returns
+    same-length-2
+    returns-2)

@@ -1,0 +1,46 @@
+-- `calls::table_words::put_build` meets its contract: the count, the word, and the table as the library left it.
+-- Assumes nothing.
+use borrow.Author.Needs.{needs}
+use Rattle.text.proofs.Puts.{put-then}
+use Rattle.calls.proofs.Words.{built-is}
+use Rattle.calls.proofs.table_words.put_build.Statement.{statement}
+use Rattle.calls.proofs.table_words.put_build.Tie as tie
+
+build-requires : tie.Need-build-requires
+build-requires c κs = search needs
+
+put-count-requires : tie.Need-put-count-requires
+put-count-requires c κs = search needs
+
+slice-aggregate-put-text : tie.Need-slice-aggregate-put-text
+slice-aggregate-put-text c = search needs
+
+put-text-requires : tie.Need-put-text-requires
+put-text-requires c κs = search needs
+
+put-table-requires : tie.Need-put-table-requires
+put-table-requires c κs = search needs
+
+same-length : tie.Need-same-length
+same-length c = search needs
+
+same-length-2 : tie.Need-same-length-2
+same-length-2 c = search needs
+
+returns : tie.Need-returns
+returns c =
+    let built = c .before .before .before .before .before .before .before .before .before .before .before .before .before .before .before .before in
+    built-is _ _ (built .build .ensures) (put-then (put-then (c .before .before .before .before .before .before .before .before .before .before .before .before .put-count .ensures) (c .before .before .before .before .before .before .before .put-text .ensures)) (c .before .before .put-table .ensures))
+
+pub put-build-spec : {M : Type 1} → statement M
+put-build-spec =
+    tie.close
+    (tie.spec
+    build-requires
+    put-count-requires
+    slice-aggregate-put-text
+    put-text-requires
+    put-table-requires
+    same-length
+    same-length-2
+    returns)
