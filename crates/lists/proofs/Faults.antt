@@ -3,20 +3,23 @@
 --     shape-1, shape-1-many, shape-2, shape-3, shape-stands      1, 2, 3, and none of them
 --     counted-2, counted-3, counted-stands                       the same, of n as worked out by a callee
 --     shaped                                                     a list that meets none of 1, 2, 3
+--     shape-few                                                  the number of a shape's refusal is at most 3
+--     shape-of, ends-of                                          a list that meets none of 1 to 4 meets none of 1, 2, 3, and not 4
+--     by-refused, by-stands, by-shaped, by-listed                the same, of a refusal as worked out by a callee
 -- Assumes nothing.
-use Prim.Native.Nat.{ℕ, _*_, _%_, _/_, _≤_, _<_}
+use Prim.Native.Nat.{ℕ, _*_, _%_, _≤_, _<_}
 use mathlib.Core.Bool.{Bool, true, false, not}
-use mathlib.Core.Path.{_≡_, refl, sym, ap, _∙_}
+use mathlib.Core.Path.{_≡_, refl, sym}
 use native.Mathlib.Omega.{arith}
 use lib.ListN.{length}
 use lib.Dec.{ltb, eqb}
 use borrow.Author.Tests.{lt-ltb, le-ltb, eq-eqb, ne-eqb, ltb-false, eqb-true}
 use Rattle.ranges.specs.Numbers.{pick, _or_}
-use Rattle.ranges.specs.Refusals.{none, refused, BadFields, BadLength, TooManyRules}
+use Rattle.ranges.specs.Refusals.{none, refused, stands, BadFields, BadLength, TooManyRules}
 use Rattle.ranges.specs.declared.refusal.Refusal.{Refusal}
-use Rattle.ranges.proofs.Numbers.{never}
+use Rattle.ranges.proofs.Numbers.{never, true-not-false}
 use Rattle.lists.specs.Rules.{Rules, fieldsOf, rulesIn}
-use Rattle.lists.specs.Faults.{shapeFault}
+use Rattle.lists.specs.Faults.{shapeFault, endsFault, listFault}
 use Rattle.lists.proofs.Rules.{Shaped, whole-length, length-whole}
 
 -- ---- 1, 2, 3
@@ -80,3 +83,47 @@ shaped R = go (ltb (fieldsOf R) 1) (ltb 8 (fieldsOf R)) (eqb (length (R .numbers
           whole = whole-length R (eqb-true (length (R .numbers) % (fieldsOf R * 2)) 0 r);
           few-rules = ltb-false 1024 (rulesIn R) s;
         }
+
+pub shape-few : (R : Rules) → shapeFault R .number ≤ 3
+unfolding shapeFault
+shape-few R = go (ltb (fieldsOf R) 1) (ltb 8 (fieldsOf R)) (eqb (length (R .numbers) % (fieldsOf R * 2)) 0) (ltb 1024 (rulesIn R))
+  where
+    go : (a b e g : Bool) → (pick (a or b) (refused BadFields) (pick (not e) (refused BadLength) (pick g (refused TooManyRules) none))) .number ≤ 3
+    go true b e g = omega arith
+    go false true e g = omega arith
+    go false false false g = omega arith
+    go false false true true = omega arith
+    go false false true false = omega arith
+
+-- ---- 1 to 4
+-- of two refusals in a row of which none refuses: neither does
+both-stand : (x y : Refusal) → (pick (stands x) y x) .number ≡ 0 → (x .number ≡ 0) × (y .number ≡ 0)
+both-stand x y = go (stands x) refl
+  where
+    go : (t : Bool) → stands x ≡ t → (pick t y x) .number ≡ 0 → (x .number ≡ 0) × (y .number ≡ 0)
+    go true e z = (eqb-true (x .number) 0 e, z)
+    go false e z = absurd (true-not-false (eq-eqb (x .number) 0 z) e)
+
+module _ (R : Rules) (z : listFault R .number ≡ 0) where
+  pub shape-of : shapeFault R .number ≡ 0
+  shape-of = both-stand (shapeFault R) (endsFault R) z .0
+
+  pub ends-of : endsFault R .number ≡ 0
+  ends-of = both-stand (shapeFault R) (endsFault R) z .1
+
+-- ---- as the code works it out: x is the refusal of a callee
+module _ {A : Type 0} (x y : Refusal) (is-y : x ≡ y) where
+  -- it refuses, and is the answer as `says` has it
+  pub by-refused : (says : Refusal → A) (a : A) → (x .number ≡ 0 → ⊥) → says x ≡ pick (stands y) a (says y)
+  by-refused says a ne = rw (← is-y, ne-eqb (x .number) 0 ne)
+
+  -- it does not, and the answer is a
+  pub by-stands : (a b : A) → x .number ≡ 0 → a ≡ pick (stands y) a b
+  by-stands a b z = rw (← is-y, eq-eqb (x .number) 0 z)
+
+module _ (R : Rules) (x : Refusal) where
+  pub by-shaped : x ≡ shapeFault R → x .number ≡ 0 → Shaped R
+  by-shaped is-x z = shaped R (rw is-x at z)
+
+  pub by-listed : x ≡ listFault R → x .number ≡ 0 → Shaped R
+  by-listed is-x z = shaped R (shape-of R (rw is-x at z))

@@ -1,5 +1,19 @@
 -- The laws that proofs of this crate and above cite:
+-- Search: of a loop that tests 0, 1, .. until one answers otherwise.
 -- Rules: where a rule's numbers stand, and what a list of the right shape is.
 -- Faults: which refusal of 1 to 4 a list meets.
+-- Voids: of the refusal 4, low > high in a field, in a rule, in a list.
+-- Fitting: of what fits a header.
+-- Meeting: of rules that one header can fit.
+-- Answers: what an answer says tells it apart from every other.
+-- Determined: any two results that a public contract allows are equal.
+-- Theorems: the statements on check, scan and order independence.
+pub mod Search
 pub mod Rules
 pub mod Faults
+pub mod Voids
+pub mod Fitting
+pub mod Meeting
+pub mod Answers
+pub mod Determined
+pub mod Theorems

@@ -3,21 +3,18 @@
 --     rules-none, rules-halved      n as the code works it out
 --     whole-length, length-whole    the list has 2d numbers a rule, either way round
 --     cell-inside      of such a list, the low and the high of each field of each rule stand in it
+--     has-rule, has-cell            the same, as the records that the contracts of the leaves ask for
+--     rule-within, rule-past        which rules a list has, by where a rule's last field ends
+--     low-read, high-read           what is read where a callee said that a rule's low stands
 --     square-few       a product of two numbers of 16 bits is far below a word
 -- Assumes nothing.
-use Prim.Native.Nat.{ℕ, _+_, _*_, _/_, _%_, _^_, _≤_, _<_}
+use Prim.Native.Nat.{ℕ, suc, _+_, _*_, _/_, _%_, _^_, _≤_, _<_}
 use mathlib.Core.Path.{_≡_, sym, ap, _∙_}
 use native.Mathlib.Omega.{arith}
-use native.Mathlib.Nat.{mul-le-mul, mul-le-mul-right, div-add-mod', div-mul-le-self, div-div-eq-div-mul, div-zero, mul-assoc, mul-comm, mul-mod-left}
-use lib.ListN.{length}
-use Rattle.lists.specs.Rules.{Rules, fieldsOf, rulesIn, cellOf}
-
--- a list whose shape stands
-pub record Shaped (R : Rules) : Type 0 where
-  pub some-fields : 1 ≤ fieldsOf R
-  pub few-fields : fieldsOf R ≤ 8
-  pub whole : length (R .numbers) ≡ rulesIn R * fieldsOf R * 2
-  pub few-rules : rulesIn R ≤ 1024
+use native.Mathlib.Nat.{mul-le-mul, mul-le-mul-right, div-add-mod', div-mul-le-self, div-div-eq-div-mul, div-zero, mul-assoc, mul-comm, mul-mod-left, le-div-iff-mul-le, div-lt-iff-lt-mul, le-of-suc-le-suc}
+use lib.ListN.{length, getD}
+use Rattle.lists.specs.Rules.{Rules, fieldsOf, rulesIn, cellOf, lowOf, highOf, HasRule, HasCell}
+pub use Rattle.lists.specs.Rules.{Shaped}
 
 -- a length that is a multiple of 2d is n * d * 2
 pub whole-length : (R : Rules) → length (R .numbers) % (fieldsOf R * 2) ≡ 0 → length (R .numbers) ≡ rulesIn R * fieldsOf R * 2
@@ -57,6 +54,43 @@ row-inside d i n f lt in-row = omega (arith, mul-le-mul-right d lt)
 pub cell-inside : (R : Rules) → Shaped R → (i f : ℕ) → i < rulesIn R → f < fieldsOf R → cellOf (fieldsOf R) i f + 1 < length (R .numbers)
 unfolding cellOf
 cell-inside R s i f lt in-row = omega (arith, row-inside (fieldsOf R) i (rulesIn R) f lt in-row, s .whole)
+
+-- each rule of such a list stands in it, and each field of a rule that does
+pub has-rule : {R : Rules} → Shaped R → {i : ℕ} → i < rulesIn R → HasRule R i
+unfolding cellOf
+has-rule {R} s {i} lt = record { few-fields = s .few-fields; within = omega (arith, mul-le-mul-right (fieldsOf R) lt, s .whole) }
+
+pub has-cell : {R : Rules} {i : ℕ} → HasRule R i → {f : ℕ} → f < fieldsOf R → HasCell R i f
+unfolding cellOf
+has-cell {R} {i} has {f} lt = record { few-fields = has .few-fields; field = lt; within = omega (arith, has .within) }
+
+-- a rule whose last field ends within the list is one of its rules, and one whose last field does not is none
+module _ (R : Rules) (i at : ℕ) (some : 1 ≤ fieldsOf R) (is-cell : at ≡ cellOf (fieldsOf R) i (fieldsOf R)) where
+  row-ends : at ≡ suc i * (fieldsOf R * 2)
+  unfolding cellOf
+  row-ends = omega (arith, is-cell, mul-assoc (suc i) (fieldsOf R) 2)
+
+  pub rule-within : at ≤ length (R .numbers) → i < rulesIn R
+  unfolding rulesIn
+  rule-within le =
+      let room : 0 < fieldsOf R * 2 = omega arith in
+      le-div-iff-mul-le room .1 (rw row-ends at le)
+
+  pub rule-past : length (R .numbers) < at → rulesIn R ≤ i
+  unfolding rulesIn
+  rule-past lt =
+      let room : 0 < fieldsOf R * 2 = omega arith in
+      le-of-suc-le-suc (div-lt-iff-lt-mul room .1 (rw row-ends at lt))
+
+-- what is read where a callee said that the low of field f of rule i stands, and one further
+module _ (R : Rules) (i f at : ℕ) (is-cell : at ≡ cellOf (fieldsOf R) i f) where
+  pub low-read : getD (R .numbers) at 0 ≡ lowOf R i f
+  unfolding lowOf
+  low-read = rw is-cell
+
+  pub high-read : getD (R .numbers) (at + 1) 0 ≡ highOf R i f
+  unfolding highOf
+  high-read = rw is-cell
 
 -- a product of two numbers of 16 bits, whatever they are
 pub square-few : (d i : ℕ) → d < 2 ^ 16 → i < 2 ^ 16 → i * d ≤ 4294836225

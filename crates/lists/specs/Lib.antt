@@ -1,3 +1,6 @@
 pub mod Rules
 pub mod FirstMatch
 pub mod Faults
+pub mod Check
+pub mod Scan
+pub mod Independence

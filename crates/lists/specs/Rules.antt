@@ -3,9 +3,10 @@
 -- range in a field goes through `lowOf` and `endsAt`, the first number past it; proofs use the laws of
 -- `proofs/Rules.antt`.
 -- Assumes nothing: these are definitions.
-use Prim.Native.Nat.{ℕ, _+_, _*_, _/_}
+use Prim.Native.Nat.{ℕ, _+_, _*_, _/_, _≤_, _<_}
 use mathlib.Core.Bool.{Bool}
 use mathlib.Core.List.{List}
+use mathlib.Core.Path.{_≡_}
 use lib.ListN.{length, getD}
 use lib.Dec.{leb}
 use Rattle.ranges.specs.Sides.{endOf}
@@ -47,3 +48,21 @@ endsAt R i f = endOf (highOf R i f)
 -- the range holds no number: low > high
 abbrev pub isVoid : Rules → ℕ → ℕ → Bool
 isVoid R i f = leb (endsAt R i f) (lowOf R i f)
+
+-- a list whose shape stands: none of 1, 2, 3 applies to it
+pub record Shaped (R : Rules) : Type 0 where
+  pub some-fields : 1 ≤ fieldsOf R
+  pub few-fields : fieldsOf R ≤ 8
+  pub whole : length (R .numbers) ≡ rulesIn R * fieldsOf R * 2
+  pub few-rules : rulesIn R ≤ 1024
+
+-- what private functions ask of their callers: rule i stands in the list up to its last field, of at most eight
+pub record HasRule (R : Rules) (i : ℕ) : Type 0 where
+  pub few-fields : fieldsOf R ≤ 8
+  pub within : cellOf (fieldsOf R) i (fieldsOf R) ≤ length (R .numbers)
+
+-- field f of rule i stands in the list
+pub record HasCell (R : Rules) (i f : ℕ) : Type 0 where
+  pub few-fields : fieldsOf R ≤ 8
+  pub field : f < fieldsOf R
+  pub within : cellOf (fieldsOf R) i f + 1 < length (R .numbers)

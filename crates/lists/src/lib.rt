@@ -5,4 +5,12 @@
 //
 // The list. A list is a lent run of numbers, 2d a rule: low and high of field 0, then of field 1, and so on.
 // `cell` alone knows where a rule's low stands; its high stands one further.
+//
+// What it answers. `check_list` says how many rules a list has. `plain_scan` gives the first rule that fits a header,
+// and `rule_fits` says whether one rule does. `independence` says whether some header fits two rules, and which two
+// come first. All but `rule_fits`, which refuses nothing, first refuse by 1, 2, 3 and 4, in this order (`list_fault`;
+// `shape_fault` gives 1, 2 and 3 alone, for those who do not read the whole list).
+pub mod check;
+pub mod independence;
+pub mod scan;
 pub mod shape;

@@ -1,33 +1,36 @@
--- Any two results that a public contract of this crate allows are equal, and any two runs that it leaves.
+-- Any two results that a public function's contract allows for the same arguments are equal, and any two runs that it leaves: each
+-- contract is one equation, `r ≡ ..`, and one for the run. `Learnt` is what a caller learns of a call, as the checker reads it off the
+-- contract's `ensures`; `ps` and `r` are its parameters' and its result's types.
 -- Assumes nothing.
-use Prim.Native.Nat.{ℕ}
-use mathlib.Core.List.{List}
 use mathlib.Core.Path.{_≡_, sym, _∙_}
-use Rattle.ranges.specs.Refusals.{refusing, saysCount}
-use Rattle.ranges.specs.Sides.{sideOf}
-use Rattle.ranges.specs.Prefixes.{boundsOf, saysBounds}
-use Rattle.ranges.specs.Blocks.{expandOf, runAfter}
-use Rattle.ranges.specs.declared.refusal.Refusal.{Refusal}
-use Rattle.ranges.specs.declared.refusal.Count.{Count}
-use Rattle.ranges.specs.declared.refusal.Count.the-variants.{Is, Refused}
-use Rattle.ranges.specs.declared.side.Side.{Side}
-use Rattle.ranges.specs.declared.prefix.Bounds.{Bounds}
+use borrow.Fn.Kinds.{Dens, resT, endedOf}
+use contract.Lifetimes.{Lfts}
+use denote.Ref.{now}
+use denote.Triple.Clauses.{AtExit}
+use Rattle.ranges.proofs.OneAnswer.{OneAnswer}
+use Rattle.ranges.proofs.refusal.refuse.Kinds as refuse-kinds
+use Rattle.ranges.proofs.refusal.refuse.Reads as refuse
+use Rattle.ranges.proofs.side.side_of.Kinds as side-of-kinds
+use Rattle.ranges.proofs.side.side_of.Reads as side-of
+use Rattle.ranges.proofs.prefix.prefix_to_range.Kinds as prefix-to-range-kinds
+use Rattle.ranges.proofs.prefix.prefix_to_range.Reads as prefix-to-range
+use Rattle.ranges.proofs.expand.range_to_prefixes.Kinds as range-to-prefixes-kinds
+use Rattle.ranges.proofs.expand.range_to_prefixes.Reads as range-to-prefixes
 
--- what two equal answers are both equal to
-pub one-answer : {A : Type 0} (f : A) (r s : A) → r ≡ f → s ≡ f → r ≡ s
-one-answer f r s p q = p ∙ sym q
+pub refuse-one : OneAnswer 0 refuse-kinds.ps refuse-kinds.r refuse.Learnt
+refuse-one κs a x y e g p q = p ∙ sym q
 
-pub refuse-one : (number : ℕ) (r s : Refusal) → r ≡ refusing number 0 0 → s ≡ refusing number 0 0 → r ≡ s
-refuse-one number = one-answer (refusing number 0 0)
+pub side-of-one : OneAnswer 0 side-of-kinds.ps side-of-kinds.r side-of.Learnt
+side-of-one κs a x y e g p q = p ∙ sym q
 
-pub side-of-one : (low high x : ℕ) (r s : Side) → r ≡ sideOf low high x → s ≡ sideOf low high x → r ≡ s
-side-of-one low high x = one-answer (sideOf low high x)
+pub prefix-to-range-one : OneAnswer 0 prefix-to-range-kinds.ps prefix-to-range-kinds.r prefix-to-range.Learnt
+prefix-to-range-one κs a x y e g p q = p ∙ sym q
 
-pub prefix-to-range-one : (w value len : ℕ) (r s : Bounds) → r ≡ boundsOf w value len → s ≡ boundsOf w value len → r ≡ s
-prefix-to-range-one w value len = one-answer (boundsOf w value len)
+pub range-to-prefixes-one : OneAnswer 1 range-to-prefixes-kinds.ps range-to-prefixes-kinds.r range-to-prefixes.Learnt
+range-to-prefixes-one κs a x y e g p q = p .0 ∙ sym (q .0)
 
-pub range-to-prefixes-one : (w low high : ℕ) (run : List ℕ) (r s : Count) → r ≡ expandOf w low high run → s ≡ expandOf w low high run → r ≡ s
-range-to-prefixes-one w low high run = one-answer (expandOf w low high run)
-
-pub range-to-prefixes-run-one : (w low high : ℕ) (run r s : List ℕ) → r ≡ runAfter w low high run → s ≡ runAfter w low high run → r ≡ s
-range-to-prefixes-run-one w low high run = one-answer (runAfter w low high run)
+-- the run afterwards is one too
+pub range-to-prefixes-run-one : (κs : Lfts 1) (a : Dens κs range-to-prefixes-kinds.ps) (x y : resT range-to-prefixes-kinds.r κs .Denot)
+    (e g : AtExit (endedOf 1 range-to-prefixes-kinds.ps range-to-prefixes-kinds.r) κs)
+    → range-to-prefixes.Learnt κs a x e → range-to-prefixes.Learnt κs a y g → now (e .1 .1 .1 .0) ≡ now (g .1 .1 .1 .0)
+range-to-prefixes-run-one κs a x y e g p q = p .1 ∙ sym (q .1)

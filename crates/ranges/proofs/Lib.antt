@@ -1,6 +1,8 @@
 -- The laws that proofs of this crate and above cite:
 -- Numbers: of `all`, `count`, `least`, `greatest` and `tab`.
 -- Widths: what shifts and masks do, once for every width.
+-- Answers: what an answer says tells it apart from every other.
+-- OneAnswer: a contract that allows one result alone.
 -- Sides: of the first number past a range and of the range test.
 -- Prefixes: which answer a prefix has.
 -- Blocks: the largest aligned block, and the search by doubling.
@@ -10,10 +12,11 @@
 -- Cover: what the prefixes of a range are: each number in exactly one, each block the largest.
 -- Few: how many prefixes a range has, once for every width.
 -- Theorems: the headline statements, T1 to T5.
--- Cases: the worked cases B10 to B12.
 -- Determined: any two results that a contract allows are equal.
 pub mod Numbers
 pub mod Widths
+pub mod Answers
+pub mod OneAnswer
 pub mod Sides
 pub mod Prefixes
 pub mod Blocks
@@ -23,5 +26,4 @@ pub mod RangeFaults
 pub mod Cover
 pub mod Few
 pub mod Theorems
-pub mod Cases
 pub mod Determined

@@ -1,0 +1,46 @@
+-- Any two results that a public function's contract allows for the same arguments are equal: each contract is one equation, `r ≡ ..`.
+-- `Learnt` is what a caller learns of a call, as the checker reads it off the contract's `ensures`; `ps` and `r` are its parameters' and
+-- its result's types.
+-- Assumes nothing.
+use mathlib.Core.Path.{sym, _∙_}
+use Rattle.ranges.proofs.OneAnswer.{OneAnswer}
+use Rattle.lists.proofs.shape.cell.Kinds as cell-kinds
+use Rattle.lists.proofs.shape.cell.Reads as cell
+use Rattle.lists.proofs.shape.rules_in.Kinds as rules-in-kinds
+use Rattle.lists.proofs.shape.rules_in.Reads as rules-in
+use Rattle.lists.proofs.shape.shape_fault.Kinds as shape-fault-kinds
+use Rattle.lists.proofs.shape.shape_fault.Reads as shape-fault
+use Rattle.lists.proofs.check.list_fault.Kinds as list-fault-kinds
+use Rattle.lists.proofs.check.list_fault.Reads as list-fault
+use Rattle.lists.proofs.check.check_list.Kinds as check-list-kinds
+use Rattle.lists.proofs.check.check_list.Reads as check-list
+use Rattle.lists.proofs.scan.rule_fits.Kinds as rule-fits-kinds
+use Rattle.lists.proofs.scan.rule_fits.Reads as rule-fits
+use Rattle.lists.proofs.scan.plain_scan.Kinds as plain-scan-kinds
+use Rattle.lists.proofs.scan.plain_scan.Reads as plain-scan
+use Rattle.lists.proofs.independence.independence.Kinds as independence-kinds
+use Rattle.lists.proofs.independence.independence.Reads as independence
+
+pub cell-one : OneAnswer 0 cell-kinds.ps cell-kinds.r cell.Learnt
+cell-one κs a x y e g p q = p ∙ sym q
+
+pub rules-in-one : OneAnswer 1 rules-in-kinds.ps rules-in-kinds.r rules-in.Learnt
+rules-in-one κs a x y e g p q = p ∙ sym q
+
+pub shape-fault-one : OneAnswer 1 shape-fault-kinds.ps shape-fault-kinds.r shape-fault.Learnt
+shape-fault-one κs a x y e g p q = p ∙ sym q
+
+pub list-fault-one : OneAnswer 1 list-fault-kinds.ps list-fault-kinds.r list-fault.Learnt
+list-fault-one κs a x y e g p q = p ∙ sym q
+
+pub check-list-one : OneAnswer 1 check-list-kinds.ps check-list-kinds.r check-list.Learnt
+check-list-one κs a x y e g p q = p ∙ sym q
+
+pub rule-fits-one : OneAnswer 1 rule-fits-kinds.ps rule-fits-kinds.r rule-fits.Learnt
+rule-fits-one κs a x y e g p q = p ∙ sym q
+
+pub plain-scan-one : OneAnswer 1 plain-scan-kinds.ps plain-scan-kinds.r plain-scan.Learnt
+plain-scan-one κs a x y e g p q = p ∙ sym q
+
+pub independence-one : OneAnswer 1 independence-kinds.ps independence-kinds.r independence.Learnt
+independence-one κs a x y e g p q = p ∙ sym q

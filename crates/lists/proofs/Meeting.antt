@@ -1,0 +1,175 @@
+-- Laws of rules that meet (`specs/Independence.antt`): in a field, in every field, and which pair is the least.
+--     apart-read, meet-read         the code's tests of one field
+--     sought-none, sought-more      the search for a rule's partner: where it begins, and after a turn
+--     sought-met, sought-end        its ways out; `no-partner` says what the last means for the rule
+--     pair-both, pair-none          the ways out of the search for a pair
+--     fits-meet, meet-fits          two rules without a void range meet exactly when one header fits both
+--     partner-meets, partner-past, paired-past      what the least pair is
+-- Assumes nothing.
+use Prim.Native.Nat.{ℕ, zero, suc, max, _+_, _≤_, _<_, suc-le-suc}
+use mathlib.Core.Bool.{Bool, true, false}
+use mathlib.Core.List.{List}
+use mathlib.Core.Path.{_≡_, refl, sym}
+use native.Mathlib.Omega.{arith}
+use lib.ListN.{getD}
+use lib.Dec.{ltb, leb}
+use native.Mathlib.Nat.{le-max-left, le-max-right, max-le, le-of-suc-le-suc}
+use borrow.Author.Tests.{lt-ltb, le-ltb, ltb-true, ltb-false, leb-true, leb-false}
+use Rattle.ranges.specs.Numbers.{least, tab}
+use Rattle.ranges.specs.Sides.{endOf}
+use Rattle.ranges.proofs.Numbers.{and-left, and-right, and-both, all-yes, all-at, least-hit, least-under, tab-at}
+use Rattle.ranges.proofs.Sides.{past-high, within-high}
+use Rattle.lists.specs.Rules.{Rules, fieldsOf, rulesIn, cellOf, lowOf, highOf, endsAt}
+use Rattle.lists.specs.FirstMatch.{fits}
+use Rattle.lists.specs.Independence.{meetAt, meet, partners, partnerOf, hasPartner, paired, pairOf}
+use Rattle.lists.specs.declared.independence.Pair.the-variants.{Independent, Both}
+use Rattle.lists.proofs.Rules.{low-read, high-read}
+use Rattle.lists.proofs.Search.{Told, told-more, told-least, told-end}
+use Rattle.lists.proofs.Voids.{SoundRule}
+use Rattle.lists.proofs.Fitting.{Inside, fits-inside, inside-fits}
+
+-- x ≤ high, said with the first number past the range
+within-test : (high x : ℕ) → leb x high ≡ ltb x (endOf high)
+within-test high x = go (leb x high) refl
+  where
+    go : (t : Bool) → leb x high ≡ t → t ≡ ltb x (endOf high)
+    go true e = sym (lt-ltb x (endOf high) (within-high high x (leb-true x high e)))
+    go false e = sym (le-ltb x (endOf high) (past-high high x (leb-false x high e)))
+
+-- the tests of field f, where a callee said that the lows of rules i and j stand at a and b
+module _ (R : Rules) (i j f a b : ℕ) (is-a : a ≡ cellOf (fieldsOf R) i f) (is-b : b ≡ cellOf (fieldsOf R) j f) where
+  -- j's high is under i's low
+  pub apart-read : getD (R .numbers) (b + 1) 0 < getD (R .numbers) a 0 → false ≡ meetAt R i j f
+  apart-read lt =
+      let past = past-high (highOf R j f) (lowOf R i f) (rw (high-read R j f b is-b, low-read R i f a is-a) at lt) in
+      rw (le-ltb (lowOf R i f) (endsAt R j f) past)
+
+  -- it is not, so the other test decides
+  pub meet-read : getD (R .numbers) a 0 ≤ getD (R .numbers) (b + 1) 0
+      → leb (getD (R .numbers) b 0) (getD (R .numbers) (a + 1) 0) ≡ meetAt R i j f
+  meet-read le =
+      let before = within-high (highOf R j f) (lowOf R i f) (rw (high-read R j f b is-b, low-read R i f a is-a) at le) in
+      rw (lt-ltb (lowOf R i f) (endsAt R j f) before, low-read R j f b is-b, high-read R i f a is-a)
+      (within-test (highOf R i f) (lowOf R j f))
+
+-- ---- the search for a partner of rule i: no rule below j is one, and j comes after i
+pub record Sought (R : Rules) (i j : ℕ) : Type 0 where
+  pub after : i < j
+  pub told : Told (partners R i) false (rulesIn R) j
+
+module _ (R : Rules) (i : ℕ) where
+  pub sought-none : i < rulesIn R → Sought R i (i + 1)
+  sought-none lt =
+      record {
+        after = omega arith;
+        told =
+            record {
+              within = omega arith;
+              below = λ k under. let not-after : k ≤ i = omega arith in rw (le-ltb i k not-after);
+            };
+      }
+
+  -- a rule after i is its partner exactly when it meets it
+  after-i : (j : ℕ) (r : Bool) → Sought R i j → r ≡ meet R i j → r ≡ partners R i j
+  after-i j r s is-r = rw (lt-ltb i j (s .after)) is-r
+
+  pub sought-more : {j : ℕ} → Sought R i j → j < rulesIn R → {r : Bool} → r ≡ meet R i j → r ≡ false → Sought R i (j + 1)
+  sought-more {j} s lt {r} is-r apart = record { after = omega (arith, s .after); told = told-more (s .told) lt (after-i j r s is-r) apart }
+
+  pub sought-met : {j : ℕ} → Sought R i j → j < rulesIn R → {r : Bool} → r ≡ meet R i j → r ≡ true → j ≡ partnerOf R i
+  unfolding partnerOf
+  sought-met {j} s lt {r} is-r met = told-least (s .told) lt (after-i j r s is-r) met
+
+  pub sought-end : {j : ℕ} → Sought R i j → rulesIn R ≤ j → rulesIn R ≡ partnerOf R i
+  unfolding partnerOf
+  sought-end s past = told-end (s .told) past
+
+-- what a search that ends at n says of rule i
+pub no-partner : (R : Rules) (i j : ℕ) → j ≡ partnerOf R i → rulesIn R ≤ j → hasPartner R i ≡ false
+no-partner R i j is-partner past = le-ltb (partnerOf R i) (rulesIn R) (rw is-partner at past)
+
+-- ---- the search for a pair: no rule below i has a partner
+module _ (R : Rules) (i : ℕ) (told : Told (hasPartner R) false (rulesIn R) i) where
+  pub pair-both : (j : ℕ) → j ≡ partnerOf R i → i < rulesIn R → j < rulesIn R → Both i j ≡ pairOf R
+  unfolding paired
+  pair-both j is-partner lt lt-j =
+      let has : hasPartner R i ≡ true = lt-ltb (partnerOf R i) (rulesIn R) (rw is-partner at lt-j) in
+      let here = told-least told lt refl has in
+      rw (← here, lt-ltb i (rulesIn R) lt, is-partner)
+
+  pub pair-none : rulesIn R ≤ i → Independent ≡ pairOf R
+  unfolding paired
+  pair-none past =
+      let n = rulesIn R in
+      let no-pair = told-end told past in
+      rw (← no-pair, le-ltb n n (omega arith))
+
+-- ---- two rules meet exactly when one header fits both
+module _ (R : Rules) (i j : ℕ) where
+  -- a header's number in a field that both rules fit is a number of both ranges
+  pub fits-meet : (h : List ℕ) → fits R h i ≡ true → fits R h j ≡ true → meet R i j ≡ true
+  unfolding meet
+  fits-meet h fits-i fits-j =
+      all-yes (meetAt R i j) (fieldsOf R)
+      (λ f lt.
+      let in-i : Inside R h i f = fits-inside R h i fits-i f lt in
+      let in-j : Inside R h j f = fits-inside R h j fits-j f lt in
+      let i-before : lowOf R i f < endsAt R j f = omega (arith, in-i .0, in-j .1) in
+      let j-before : lowOf R j f < endsAt R i f = omega (arith, in-j .0, in-i .1) in
+      and-both (ltb (lowOf R i f) (endsAt R j f)) (ltb (lowOf R j f) (endsAt R i f)) (lt-ltb (lowOf R i f) (endsAt R j f) i-before)
+      (lt-ltb (lowOf R j f) (endsAt R i f) j-before))
+
+-- a bound on the greater of two numbers
+pub max-lt : {a b : ℕ} (k : ℕ) → a < k → b < k → max a b < k
+max-lt zero a-lt b-lt = absurd (omega arith)
+max-lt (suc k) a-lt b-lt = suc-le-suc (max-le (le-of-suc-le-suc a-lt) (le-of-suc-le-suc b-lt))
+
+-- the header whose numbers are the greater of the two lows, field by field
+unfoldable pub sharedHeader : Rules → ℕ → ℕ → List ℕ
+sharedHeader R i j = tab 8 (λ f. max (lowOf R i f) (lowOf R j f))
+
+module _ (R : Rules) (i j : ℕ) (few : fieldsOf R ≤ 8) (sound-i : SoundRule R i) (sound-j : SoundRule R j) (met : meet R i j ≡ true) where
+  -- each of the two ends is past both lows
+  past-lows : (f : ℕ) → f < fieldsOf R → (max (lowOf R i f) (lowOf R j f) < endsAt R i f) × (max (lowOf R i f) (lowOf R j f) < endsAt R j f)
+  unfolding meet
+  past-lows f lt =
+      let i-test = ltb (lowOf R i f) (endsAt R j f) in
+      let j-test = ltb (lowOf R j f) (endsAt R i f) in
+      let here = all-at (meetAt R i j) (fieldsOf R) met f lt in
+      let i-before = ltb-true (lowOf R i f) (endsAt R j f) (and-left i-test j-test here) in
+      let j-before = ltb-true (lowOf R j f) (endsAt R i f) (and-right i-test j-test here) in
+      (max-lt (endsAt R i f) (sound-i f lt) j-before, max-lt (endsAt R j f) i-before (sound-j f lt))
+
+  shared-at : (f : ℕ) → f < fieldsOf R → getD (sharedHeader R i j) f 0 ≡ max (lowOf R i f) (lowOf R j f)
+  unfolding sharedHeader
+  shared-at f lt = tab-at (λ g. max (lowOf R i g) (lowOf R j g)) 8 f (omega arith)
+
+  pub meet-fits : (fits R (sharedHeader R i j) i ≡ true) × (fits R (sharedHeader R i j) j ≡ true)
+  meet-fits = (
+    inside-fits R (sharedHeader R i j) i (λ f lt. rw (shared-at f lt) (le-max-left (lowOf R i f) (lowOf R j f), past-lows f lt .0)),
+    inside-fits R (sharedHeader R i j) j (λ f lt. rw (shared-at f lt) (le-max-right (lowOf R i f) (lowOf R j f), past-lows f lt .1)),
+  )
+
+-- ---- what the least pair is
+module _ (R : Rules) (i : ℕ) where
+  -- a partner comes after i and meets it
+  pub partner-meets : partnerOf R i < rulesIn R → (i < partnerOf R i) × (meet R i (partnerOf R i) ≡ true)
+  unfolding partnerOf
+  partner-meets lt =
+      let j = least (rulesIn R) (partners R i) in
+      let hit = least-hit (partners R i) (rulesIn R) lt in
+      (ltb-true i j (and-left (ltb i j) (meet R i j) hit), and-right (ltb i j) (meet R i j) hit)
+
+  -- a rule after i and before its partner does not meet it
+  pub partner-past : (l : ℕ) → l < partnerOf R i → i < l → meet R i l ≡ false
+  unfolding partnerOf
+  partner-past l under after =
+      rw (lt-ltb i l after) at (least-under (partners R i) (rulesIn R) l under)
+
+-- a rule before the least that has a partner meets none after it
+pub paired-past : (R : Rules) (k l : ℕ) → k < paired R → k < l → l < rulesIn R → meet R k l ≡ false
+unfolding paired
+paired-past R k l under after lt =
+    let none = least-under (hasPartner R) (rulesIn R) k under in
+    let past = ltb-false (partnerOf R k) (rulesIn R) none in
+    partner-past R k l (omega arith) after

@@ -1,0 +1,365 @@
+-- What a reader may rely on of lists (layer 2). The statements, R a list with its shape and h a header:
+--
+--     T6  check-is-n-iff        a check answers n exactly when none of 1 to 4 applies
+--         check-4-iff           it refuses by 4 at (i, f) exactly when the shape stands, low > high there, and in no rule or field before
+--     T7  scan-rule-iff         a scan answers rule i exactly when none of 1 to 4 applies, i fits, and no rule before i fits
+--         scan-nothing-iff      it answers none exactly when none of 1 to 4 applies and no rule fits
+--         rule-fits-iff         one rule's test answers yes exactly when d is 1 to 8, the list has the rule, and all d numbers are in its ranges
+--         scan-unread           headers that agree on the first d numbers get the same answer; `fits-in-unread`: of one rule, too
+--     T8  independent-iff       the answer is yes exactly when none of 1 to 4 applies and no header at all fits two different rules
+--         pair-iff              it is the pair (i, j) exactly when a header fits both, and no pair before (i, j) is fitted by one
+--         pair-header           the header of the greater lows fits both; it has eight numbers, of 32 bits where the list's are
+--
+-- The contracts of `check_list`, `plain_scan`, `rule_fits` and `independence` are equations with the definitions named here, so each
+-- statement is one on the function. A header is any list of numbers: what is said of every header holds of eight of 32 bits.
+-- Assumes nothing.
+use Prim.Native.Nat.{ℕ, max, _^_, _≤_, _<_}
+use mathlib.Core.Bool.{Bool, true, false, not}
+use mathlib.Core.List.{List}
+use mathlib.Core.Logic.{_↔_}
+use mathlib.Core.Path.{_≡_, refl, sym, ap}
+use native.Mathlib.Omega.{arith}
+use lib.Dec.{ltb}
+use lib.ListN.{length, getD}
+use borrow.Author.Tests.{lt-ltb, le-ltb, ltb-true, ltb-false, le-leb, lt-leb, leb-true, leb-false, eqb-true, not-true}
+use Rattle.ranges.specs.Numbers.{_and_, _or_, least}
+use Rattle.ranges.specs.Refusals.{none, stands, refusedAt, LowAboveHigh}
+use Rattle.ranges.specs.declared.refusal.Refusal.{Refusal}
+use Rattle.ranges.specs.declared.refusal.Count.the-variants.{Is, Refused as CountRefused}
+use Rattle.ranges.proofs.Numbers.{never, and-left, and-right, true-not-false, least-is, least-none, least-hit, least-under, tab-length, tab-at}
+use Rattle.lists.specs.Rules.{Rules, Shaped, fieldsOf, rulesIn, cellOf, lowOf, endsAt, isVoid}
+use Rattle.lists.specs.Faults.{shapeFault, endsFault, listFault, badRule}
+use Rattle.lists.specs.Check.{checkOf}
+use Rattle.lists.specs.FirstMatch.{fits, firstMatch}
+use Rattle.lists.specs.Scan.{fitsIn, matchOf, scanOf}
+use Rattle.lists.specs.Independence.{meet, partners, partnerOf, hasPartner, paired, pairOf, independenceOf}
+use Rattle.lists.specs.declared.scan.Match.the-variants.{Rule, Nothing, Refused as MatchRefused}
+use Rattle.lists.specs.declared.independence.Pair.the-variants.{Independent, Both, Refused as PairRefused}
+use Rattle.lists.proofs.Search.{Told}
+use Rattle.lists.proofs.Faults.{shape-stands, shaped, shape-few, shape-of, ends-of}
+use Rattle.lists.proofs.Voids.{bad, bad-field, ends-4, ends-stands, SoundRule, not-bad, sound-not-bad, ends-sound}
+use Rattle.lists.proofs.Fitting.{Inside, fits-inside, inside-fits, fits-same, first-same}
+use Rattle.lists.proofs.Meeting.{sharedHeader, max-lt, fits-meet, meet-fits, partner-meets, partner-past, paired-past}
+use Rattle.lists.proofs.Answers.{picked, not-picked}
+
+-- ---- none of 1 to 4 applies: d is 1 to 8, the length is n * d * 2, n is at most 1,024, and low ≤ high everywhere
+pub record Sound (R : Rules) : Type 0 where
+  pub shape : Shaped R
+  pub ranges : (i : ℕ) → i < rulesIn R → SoundRule R i
+
+stands-sound : (R : Rules) → stands (listFault R) ≡ true → Sound R
+stands-sound R e =
+    let z = eqb-true (listFault R .number) 0 e in
+    record { shape = shaped R (shape-of R z); ranges = ends-sound R (ends-of R z) }
+
+-- no rule below i has a void range
+told-sound : (R : Rules) (i : ℕ) → i ≤ rulesIn R → ((k : ℕ) → k < i → SoundRule R k) → Told (bad R) false (rulesIn R) i
+told-sound R i le sound = record { within = le; below = λ k lt. sound-not-bad R k (sound k lt) }
+
+shaped-none : (R : Rules) → Shaped R → shapeFault R ≡ none
+shaped-none R s = shape-stands R (s .some-fields) (s .few-fields) (sym (s .whole)) (s .few-rules)
+
+sound-none : (R : Rules) → Sound R → listFault R ≡ none
+sound-none R s =
+    let ends = ends-stands R (rulesIn R) (told-sound R (rulesIn R) (omega arith) (s .ranges)) (omega arith) in
+    rw (shaped-none R (s .shape)) (sym ends)
+
+-- ---- T6
+-- a check answers n exactly when none of 1 to 4 applies: it refuses nothing else, and lets none of them pass
+pub check-is-n-iff : (R : Rules) → (checkOf R ≡ Is (rulesIn R)) ↔ Sound R
+check-is-n-iff R = (
+  λ e. stands-sound R (picked (Is (rulesIn R)) (CountRefused (listFault R)) (Is (rulesIn R)) (stands (listFault R)) e (λ r. never (cc)) .0),
+  λ s. rw (sound-none R s),
+)
+
+-- the place of refusal 4: low > high in field f of rule i, and in no rule before it, nor in a field before it
+pub record LeastVoid (R : Rules) (i f : ℕ) : Type 0 where
+  pub shape : Shaped R
+  pub rule : i < rulesIn R
+  pub field : f < fieldsOf R
+  pub void : endsAt R i f ≤ lowOf R i f
+  pub rules-before : (k : ℕ) → k < i → SoundRule R k
+  pub fields-before : (g : ℕ) → g < f → lowOf R i g < endsAt R i g
+
+-- the least rule with a void range, at its least such field
+void-here : (R : Rules) (b : ℕ) → Shaped R → b < rulesIn R → bad R b ≡ true → ((k : ℕ) → k < b → bad R k ≡ false)
+    → LeastVoid R b (least (fieldsOf R) (isVoid R b))
+void-here R b s lt is-bad under =
+    let v = least (fieldsOf R) (isVoid R b) in
+    let field = bad-field R b is-bad in
+    record {
+      shape = s;
+      rule = lt;
+      field = field;
+      void = leb-true (endsAt R b v) (lowOf R b v) (least-hit (isVoid R b) (fieldsOf R) field);
+      rules-before = λ k below. not-bad R k (under k below);
+      fields-before = λ g below. leb-false (endsAt R b g) (lowOf R b g) (least-under (isVoid R b) (fieldsOf R) g below);
+    }
+
+ends-least : (R : Rules) (i f : ℕ) → Shaped R → endsFault R ≡ refusedAt LowAboveHigh i f → LeastVoid R i f
+unfolding endsFault badRule
+ends-least R i f s e =
+    let b = least (rulesIn R) (bad R) in
+    let v = least (fieldsOf R) (isVoid R b) in
+    let told = picked (refusedAt LowAboveHigh b v) none (refusedAt LowAboveHigh i f) (ltb b (rulesIn R)) e (λ r. numbers-apart r) in
+    let lt = ltb-true b (rulesIn R) (told .0) in
+    let here = void-here R b s lt (least-hit (bad R) (rulesIn R) lt) (least-under (bad R) (rulesIn R)) in
+    moved b v (ap (λ (x : Refusal). x .at) (told .1)) (ap (λ (x : Refusal). x .then) (told .1)) here
+  where
+    numbers-apart : none ≡ refusedAt LowAboveHigh i f → ⊥
+    numbers-apart r = let z : _≡_ {A = ℕ} 0 4 = ap (λ (x : Refusal). x .number) r in omega arith
+
+    moved : (b v : ℕ) → b ≡ i → v ≡ f → LeastVoid R b v → LeastVoid R i f
+    moved b v is-i is-f here = rw (← is-i, ← is-f) here
+
+-- 4 is given exactly at the smallest rule number with low > high, and there at its smallest such field, and only where 1, 2, 3 do not apply
+pub check-4-iff : (R : Rules) (i f : ℕ) → (checkOf R ≡ CountRefused (refusedAt LowAboveHigh i f)) ↔ LeastVoid R i f
+check-4-iff R i f = (λ e. to (refusal e), fro)
+  where
+    four : Refusal
+    four = refusedAt LowAboveHigh i f
+
+    refusal : checkOf R ≡ CountRefused four → listFault R ≡ four
+    refusal e =
+        let told = not-picked (Is (rulesIn R)) (CountRefused (listFault R)) (CountRefused four) (stands (listFault R)) e (λ r. never (cc)) .1 in
+        cc
+
+    not-shape : shapeFault R ≡ four → ⊥
+    not-shape r =
+        let z : shapeFault R .number ≡ 4 = ap (λ (x : Refusal). x .number) r in
+        omega (arith, shape-few R)
+
+    to : listFault R ≡ four → LeastVoid R i f
+    to e =
+        let told = picked (endsFault R) (shapeFault R) four (stands (shapeFault R)) e not-shape in
+        ends-least R i f (shaped R (eqb-true (shapeFault R .number) 0 (told .0))) (told .1)
+
+    fro : LeastVoid R i f → checkOf R ≡ CountRefused four
+    fro l =
+        let here = le-leb (endsAt R i f) (lowOf R i f) (l .void) in
+        let first = least-is (isVoid R i) (fieldsOf R) f (l .field) here (λ g lt. lt-leb (endsAt R i g) (lowOf R i g) (l .fields-before g lt)) in
+        let le : i ≤ rulesIn R = omega (arith, l .rule) in
+        let ends = ends-4 R i (told-sound R i le (l .rules-before)) f (sym first) (l .rule) (l .field) in
+        rw (shaped-none R (l .shape), ← ends)
+
+-- ---- T7
+-- rule i is the first that fits
+pub record First (R : Rules) (h : List ℕ) (i : ℕ) : Type 0 where
+  pub rule : i < rulesIn R
+  pub here : fits R h i ≡ true
+  pub before : (k : ℕ) → k < i → fits R h k ≡ false
+
+first-here : (R : Rules) (h : List ℕ) → firstMatch R h < rulesIn R → First R h (firstMatch R h)
+unfolding firstMatch
+first-here R h lt =
+    record { rule = lt; here = least-hit (fits R h) (rulesIn R) lt; before = least-under (fits R h) (rulesIn R) }
+
+first-one : (R : Rules) (h : List ℕ) (i : ℕ) → First R h i → firstMatch R h ≡ i
+unfolding firstMatch
+first-one R h i first = least-is (fits R h) (rulesIn R) i (first .rule) (first .here) (first .before)
+
+module _ (R : Rules) (h : List ℕ) where
+  -- a rule returned fits and none before it does; and the first rule that fits is returned
+  pub scan-rule-iff : (i : ℕ) → (scanOf R h ≡ Rule i) ↔ (Sound R × First R h i)
+  scan-rule-iff i = (
+    λ e.
+        let told = picked (matchOf R h) (MatchRefused (listFault R)) (Rule i) (stands (listFault R)) e (λ r. never (cc)) in
+        let found = picked (Rule (firstMatch R h)) Nothing (Rule i) (ltb (firstMatch R h) (rulesIn R)) (told .1) (λ r. never (cc)) in
+        let is-i : firstMatch R h ≡ i = cc (found .1) in
+        (stands-sound R (told .0), rw is-i at (first-here R h (ltb-true (firstMatch R h) (rulesIn R) (found .0)))),
+    λ p. rw (sound-none R (p .0), first-one R h i (p .1), lt-ltb i (rulesIn R) (p .1 .rule)),
+  )
+
+  -- none is returned exactly where no rule fits
+  pub scan-nothing-iff : (scanOf R h ≡ Nothing) ↔ (Sound R × ((k : ℕ) → k < rulesIn R → fits R h k ≡ false))
+  unfolding firstMatch
+  scan-nothing-iff =
+      let n = rulesIn R in (
+        λ e.
+            let told = picked (matchOf R h) (MatchRefused (listFault R)) Nothing (stands (listFault R)) e (λ r. never (cc)) in
+            let past = not-picked (Rule (firstMatch R h)) Nothing Nothing (ltb (firstMatch R h) n) (told .1) (λ r. never (cc)) .0 in
+            let over = ltb-false (least n (fits R h)) n past in
+            (stands-sound R (told .0), λ k lt. least-under (fits R h) n k (omega arith)),
+        λ p. rw (sound-none R (p .0), least-none (fits R h) n (p .1), le-ltb n n (omega arith)),
+      )
+
+-- rule i is one of the list, and low ≤ number ≤ high in all d fields
+pub record FitsRule (R : Rules) (h : List ℕ) (i : ℕ) : Type 0 where
+  pub some-fields : 1 ≤ fieldsOf R
+  pub few-fields : fieldsOf R ≤ 8
+  pub rule : i < rulesIn R
+  pub inside : (f : ℕ) → f < fieldsOf R → Inside R h i f
+
+or-none : (s t : Bool) → s or t ≡ false → (s ≡ false) × (t ≡ false)
+or-none true t e = never (cc)
+or-none false t e = (refl, e)
+
+-- what a yes of `rule_fits` tells, and when it is given; a lookup confirms its candidate by it
+pub rule-fits-iff : (R : Rules) (h : List ℕ) (i : ℕ) → (fitsIn R h i ≡ true) ↔ FitsRule R h i
+unfolding fitsIn
+rule-fits-iff R h i =
+    let few = ltb (fieldsOf R) 1 in
+    let many = ltb 8 (fieldsOf R) in
+    let rule = ltb i (rulesIn R) in (
+      λ e.
+          let fields = or-none few many (not-true (few or many) (and-left (not (few or many)) (rule and fits R h i) e)) in
+          let rest = and-right (not (few or many)) (rule and fits R h i) e in
+          record {
+            some-fields = ltb-false (fieldsOf R) 1 (fields .0);
+            few-fields = ltb-false 8 (fieldsOf R) (fields .1);
+            rule = ltb-true i (rulesIn R) (and-left rule (fits R h i) rest);
+            inside = fits-inside R h i (and-right rule (fits R h i) rest);
+          },
+      λ p.
+          rw (le-ltb (fieldsOf R) 1 (p .some-fields), le-ltb 8 (fieldsOf R) (p .few-fields), lt-ltb i (rulesIn R) (p .rule))
+          (inside-fits R h i (p .inside)),
+    )
+
+-- a header's numbers past d alter nothing
+module _ (R : Rules) (h g : List ℕ) (agree : (f : ℕ) → f < fieldsOf R → getD h f 0 ≡ getD g f 0) where
+  pub scan-unread : scanOf R h ≡ scanOf R g
+  scan-unread = rw (first-same R h g agree)
+
+  pub fits-in-unread : (i : ℕ) → fitsIn R h i ≡ fitsIn R g i
+  unfolding fitsIn
+  fits-in-unread i = rw (fits-same R h g agree i)
+
+-- ---- T8
+-- no header fits both rules
+abbrev pub Apart : Rules → ℕ → ℕ → Type 0
+Apart R i j = (h : List ℕ) → fits R h i ≡ true → fits R h j ≡ true → ⊥
+
+-- rules that do not meet are apart; and two rules of a sound list that are apart do not meet, else the shared header would fit both
+not-met-apart : (R : Rules) (i j : ℕ) → meet R i j ≡ false → Apart R i j
+not-met-apart R i j not-met h fits-i fits-j = true-not-false (fits-meet R i j h fits-i fits-j) not-met
+
+shared-fits : (R : Rules) → Sound R → (i j : ℕ) → i < rulesIn R → j < rulesIn R → meet R i j ≡ true
+    → (fits R (sharedHeader R i j) i ≡ true) × (fits R (sharedHeader R i j) j ≡ true)
+shared-fits R s i j i-rule j-rule met = meet-fits R i j (s .shape .few-fields) (s .ranges i i-rule) (s .ranges j j-rule) met
+
+apart-not-met : (R : Rules) → Sound R → (i j : ℕ) → i < rulesIn R → j < rulesIn R → Apart R i j → meet R i j ≡ false
+apart-not-met R s i j i-rule j-rule apart = go (meet R i j) refl
+  where
+    go : (t : Bool) → meet R i j ≡ t → meet R i j ≡ false
+    go true met = let both = shared-fits R s i j i-rule j-rule met in absurd (apart (sharedHeader R i j) (both .0) (both .1))
+    go false not-met = not-met
+
+-- a rule that is apart from every later one has no partner
+no-partner-of : (R : Rules) → Sound R → (i : ℕ) → i < rulesIn R → ((l : ℕ) → i < l → l < rulesIn R → Apart R i l) → hasPartner R i ≡ false
+unfolding partnerOf
+no-partner-of R s i rule apart =
+    let n = rulesIn R in
+    let none-is = least-none (partners R i) n (λ l lt. not-partners l lt) in
+    le-ltb (least n (partners R i)) n (omega arith)
+  where
+    not-partners : (l : ℕ) → l < rulesIn R → partners R i l ≡ false
+    not-partners l lt = go (ltb i l) refl
+      where
+        go : (t : Bool) → ltb i l ≡ t → t and meet R i l ≡ false
+        go true e = apart-not-met R s i l rule lt (apart l (ltb-true i l e) lt)
+        go false e = refl
+
+-- "yes" excludes every header, and is answered wherever every header is excluded
+pub independent-iff : (R : Rules)
+    → (independenceOf R ≡ Independent) ↔ (Sound R × ((i j : ℕ) → i < j → j < rulesIn R → Apart R i j))
+unfolding paired
+independent-iff R =
+    let n = rulesIn R in (
+      λ e.
+          let told = picked (pairOf R) (PairRefused (listFault R)) Independent (stands (listFault R)) e (λ r. never (cc)) in
+          let past = not-picked (Both (paired R) (partnerOf R (paired R))) Independent Independent (ltb (paired R) n) (told .1) (λ r. never (cc)) .0 in
+          let over = ltb-false (paired R) n past in
+          (stands-sound R (told .0), λ i j after lt. not-met-apart R i j (paired-past R i j (omega arith) after lt)),
+      λ p.
+          let alone = least-none (hasPartner R) n (λ i lt. no-partner-of R (p .0) i lt (p .1 i)) in
+          rw (sound-none R (p .0), alone, le-ltb n n (omega arith)),
+    )
+
+-- rules i < j, the smallest i and then the smallest j that some header fits
+pub record LeastPair (R : Rules) (i j : ℕ) : Type 0 where
+  pub sound : Sound R
+  pub after : i < j
+  pub rule : j < rulesIn R
+  pub both : (h : List ℕ) × (fits R h i ≡ true) × (fits R h j ≡ true)
+  pub rules-before : (k l : ℕ) → k < i → k < l → l < rulesIn R → Apart R k l
+  pub partners-before : (l : ℕ) → i < l → l < j → Apart R i l
+
+pair-here : (R : Rules) → Sound R → paired R < rulesIn R → LeastPair R (paired R) (partnerOf R (paired R))
+unfolding paired
+pair-here R s lt =
+    let n = rulesIn R in
+    let i = least n (hasPartner R) in
+    let j = partnerOf R i in
+    let has : j < n = ltb-true j n (least-hit (hasPartner R) n lt) in
+    let meets = partner-meets R i has in
+    let fit = shared-fits R s i j lt has (meets .1) in
+    record {
+      sound = s;
+      after = meets .0;
+      rule = has;
+      both = (sharedHeader R i j, fit .0, fit .1);
+      rules-before = λ k l under later rule. not-met-apart R k l (paired-past R k l under later rule);
+      partners-before = λ l later under. not-met-apart R i l (partner-past R i l under later);
+    }
+
+pair-one : (R : Rules) (i j : ℕ) → LeastPair R i j → (partnerOf R i ≡ j) × (paired R ≡ i)
+unfolding paired partnerOf
+pair-one R i j p =
+    let n = rulesIn R in
+    let i-rule : i < n = omega (arith, p .after, p .rule) in
+    let met = fits-meet R i j (p .both .0) (p .both .1) (p .both .2) in
+    let partner = least-is (partners R i) n j (p .rule) (rw (lt-ltb i j (p .after)) met) (λ l lt. not-before l lt) in
+    let has : hasPartner R i ≡ true = rw partner (lt-ltb j n (p .rule)) in (
+      partner,
+      least-is (hasPartner R) n i i-rule has (λ k lt. no-partner-of R (p .sound) k (omega arith) (λ l later rule. p .rules-before k l lt later rule)),
+    )
+  where
+    not-before : (l : ℕ) → l < j → partners R i l ≡ false
+    not-before l lt = go (ltb i l) refl
+      where
+        go : (t : Bool) → ltb i l ≡ t → t and meet R i l ≡ false
+        go true e =
+            let after = ltb-true i l e in
+            let rule : l < rulesIn R = omega (arith, p .rule) in
+            apart-not-met R (p .sound) i l (omega arith) rule (p .partners-before l after lt)
+        go false e = refl
+
+-- the pair named is fitted by one header and no pair before it is; and such a pair is named
+pub pair-iff : (R : Rules) (i j : ℕ) → (independenceOf R ≡ Both i j) ↔ LeastPair R i j
+pair-iff R i j = (
+  λ e.
+      let told = picked (pairOf R) (PairRefused (listFault R)) (Both i j) (stands (listFault R)) e (λ r. never (cc)) in
+      let found = picked (Both (paired R) (partnerOf R (paired R))) Independent (Both i j) (ltb (paired R) (rulesIn R)) (told .1) (λ r. never (cc)) in
+      let is-i : paired R ≡ i = cc (found .1) in
+      let is-j : partnerOf R (paired R) ≡ j = cc (found .1) in
+      moved (paired R) (partnerOf R (paired R)) is-i is-j (pair-here R (stands-sound R (told .0)) (ltb-true (paired R) (rulesIn R) (found .0))),
+  λ p.
+      let one = pair-one R i j p in
+      let i-rule : i < rulesIn R = omega (arith, p .after, p .rule) in
+      rw (sound-none R (p .sound), one .1, one .0, lt-ltb i (rulesIn R) i-rule),
+)
+  where
+    moved : (k l : ℕ) → k ≡ i → l ≡ j → LeastPair R k l → LeastPair R i j
+    moved k l is-i is-j here = rw (← is-i, ← is-j) here
+
+-- a header that fits both rules of the pair: eight numbers, each the low of one of the two, so of 32 bits where the list's are
+pub record FitsBoth (R : Rules) (i j : ℕ) (h : List ℕ) : Type 0 where
+  pub eight : length h ≡ 8
+  pub first : fits R h i ≡ true
+  pub second : fits R h j ≡ true
+  pub words : ((k : ℕ) → getD (R .numbers) k 0 < 2 ^ 32) → (f : ℕ) → f < 8 → getD h f 0 < 2 ^ 32
+
+pub pair-header : (R : Rules) (i j : ℕ) → independenceOf R ≡ Both i j → FitsBoth R i j (sharedHeader R i j)
+unfolding sharedHeader lowOf
+pair-header R i j e =
+    let p = pair-iff R i j .0 e in
+    let i-rule : i < rulesIn R = omega (arith, p .after, p .rule) in
+    let met = fits-meet R i j (p .both .0) (p .both .1) (p .both .2) in
+    let fit = shared-fits R (p .sound) i j i-rule (p .rule) met in
+    let low : ℕ → ℕ = λ f. max (lowOf R i f) (lowOf R j f) in
+    record {
+      eight = tab-length low 8;
+      first = fit .0;
+      second = fit .1;
+      words = λ word f lt. rw (tab-at low 8 f lt) (max-lt (2 ^ 32) (word (cellOf (fieldsOf R) i f)) (word (cellOf (fieldsOf R) j f)));
+    }

@@ -1,0 +1,101 @@
+-- Laws of the refusal 4 (`specs/Faults.antt`): a range whose low is greater than its high, in a field, in a rule, in a list.
+--     void-read            the code's test of a range
+--     bad-yes, bad-no      a rule with such a field, and one without; `bad-field`: it then has a smallest
+--     ends-4, ends-stands  the refusal, at the rule and field where the search for it ends, and none
+--     ends-sound           a list that is not so refused has a number in every range
+-- Assumes nothing.
+use Prim.Native.Nat.{ℕ, _+_, _≤_, _<_}
+use mathlib.Core.Bool.{Bool, true, false, not}
+use mathlib.Core.Path.{_≡_, refl, sym, ap}
+use native.Mathlib.Omega.{arith}
+use lib.ListN.{getD}
+use lib.Dec.{ltb, leb}
+use borrow.Author.Tests.{lt-ltb, le-ltb, le-leb, lt-leb, ltb-true, ltb-false, leb-false, not-true, not-false}
+use Rattle.ranges.specs.Numbers.{pick, least}
+use Rattle.ranges.specs.Sides.{endOf}
+use Rattle.ranges.specs.Refusals.{none, refusedAt, LowAboveHigh}
+use Rattle.ranges.proofs.Numbers.{true-not-false, all-yes, all-at, all-no, least-hit, least-under}
+use Rattle.ranges.proofs.Sides.{past-high, within-high}
+use Rattle.lists.specs.Rules.{Rules, fieldsOf, rulesIn, cellOf, lowOf, highOf, endsAt, isVoid}
+use Rattle.lists.specs.Faults.{soundRule, badRule, endsFault}
+use Rattle.lists.proofs.Rules.{low-read, high-read}
+use Rattle.lists.proofs.Search.{Told, told-least, told-end}
+
+-- high < low, said with the first number past the range
+void-test : (low high : ℕ) → ltb high low ≡ leb (endOf high) low
+void-test low high = go (ltb high low) refl
+  where
+    go : (t : Bool) → ltb high low ≡ t → t ≡ leb (endOf high) low
+    go true e = sym (le-leb (endOf high) low (past-high high low (ltb-true high low e)))
+    go false e = sym (lt-leb (endOf high) low (within-high high low (ltb-false high low e)))
+
+pub void-read : (R : Rules) (i f at : ℕ) → at ≡ cellOf (fieldsOf R) i f
+    → ltb (getD (R .numbers) (at + 1) 0) (getD (R .numbers) at 0) ≡ isVoid R i f
+void-read R i f at is-cell = rw (low-read R i f at is-cell, high-read R i f at is-cell) (void-test (lowOf R i f) (highOf R i f))
+
+-- low > high in some field of rule i
+abbrev pub bad : Rules → ℕ → Bool
+bad R i = not (soundRule R i)
+
+-- v is the rule's smallest such field, and d where there is none
+module _ (R : Rules) (i v : ℕ) (is-least : v ≡ least (fieldsOf R) (isVoid R i)) where
+  pub bad-yes : v < fieldsOf R → bad R i ≡ true
+  bad-yes lt =
+      let void : isVoid R i v ≡ true = rw is-least (least-hit (isVoid R i) (fieldsOf R) (rw is-least at lt)) in
+      ap not (all-no (λ f. not (isVoid R i f)) (fieldsOf R) v lt (ap not void))
+
+  pub bad-no : fieldsOf R ≤ v → bad R i ≡ false
+  bad-no past =
+      let past-least : fieldsOf R ≤ least (fieldsOf R) (isVoid R i) = rw is-least at past in
+      ap not (all-yes (λ f. not (isVoid R i f)) (fieldsOf R) (λ f lt. ap not (least-under (isVoid R i) (fieldsOf R) f (omega arith))))
+
+-- a rule with such a field has a smallest one
+pub bad-field : (R : Rules) (i : ℕ) → bad R i ≡ true → least (fieldsOf R) (isVoid R i) < fieldsOf R
+bad-field R i is-bad = go (ltb (least (fieldsOf R) (isVoid R i)) (fieldsOf R)) refl
+  where
+    go : (t : Bool) → ltb (least (fieldsOf R) (isVoid R i)) (fieldsOf R) ≡ t → least (fieldsOf R) (isVoid R i) < fieldsOf R
+    go true e = ltb-true (least (fieldsOf R) (isVoid R i)) (fieldsOf R) e
+    go false e = absurd (true-not-false is-bad (bad-no R i (least (fieldsOf R) (isVoid R i)) refl (ltb-false (least (fieldsOf R) (isVoid R i)) (fieldsOf R) e)))
+
+-- the rules below i have no such field
+module _ (R : Rules) (i : ℕ) (told : Told (bad R) false (rulesIn R) i) where
+  -- rule i has one, v
+  pub ends-4 : (v : ℕ) → v ≡ least (fieldsOf R) (isVoid R i) → i < rulesIn R → v < fieldsOf R → refusedAt LowAboveHigh i v ≡ endsFault R
+  unfolding endsFault badRule
+  ends-4 v is-least lt field =
+      let here = told-least told lt refl (bad-yes R i v is-least field) in
+      rw (← here, lt-ltb i (rulesIn R) lt, is-least)
+
+  -- there is no rule i
+  pub ends-stands : rulesIn R ≤ i → none ≡ endsFault R
+  unfolding endsFault badRule
+  ends-stands past =
+      let n = rulesIn R in
+      let no-bad = told-end told past in
+      rw (← no-bad, le-ltb n n (omega arith))
+
+-- ---- what the refusal, or its absence, says of the ranges
+-- every range of rule i holds a number
+abbrev pub SoundRule : Rules → ℕ → Type 0
+SoundRule R i = (f : ℕ) → f < fieldsOf R → lowOf R i f < endsAt R i f
+
+pub not-bad : (R : Rules) (i : ℕ) → bad R i ≡ false → SoundRule R i
+not-bad R i e f lt =
+    let no-void = all-at (λ g. not (isVoid R i g)) (fieldsOf R) (not-false (soundRule R i) e) f lt in
+    leb-false (endsAt R i f) (lowOf R i f) (not-true (isVoid R i f) no-void)
+
+pub sound-not-bad : (R : Rules) (i : ℕ) → SoundRule R i → bad R i ≡ false
+sound-not-bad R i sound =
+    ap not (all-yes (λ f. not (isVoid R i f)) (fieldsOf R) (λ f lt. ap not (lt-leb (endsAt R i f) (lowOf R i f) (sound f lt))))
+
+pub ends-sound : (R : Rules) → endsFault R .number ≡ 0 → (i : ℕ) → i < rulesIn R → SoundRule R i
+unfolding endsFault badRule
+ends-sound R = go (ltb (least (rulesIn R) (bad R)) (rulesIn R)) refl
+  where
+    go : (t : Bool) → ltb (least (rulesIn R) (bad R)) (rulesIn R) ≡ t
+        → (pick t (refusedAt LowAboveHigh (least (rulesIn R) (bad R)) (least (fieldsOf R) (isVoid R (least (rulesIn R) (bad R))))) none) .number ≡ 0
+        → (i : ℕ) → i < rulesIn R → SoundRule R i
+    go true e z i lt = absurd (omega arith)
+    go false e z i lt =
+        let past = ltb-false (least (rulesIn R) (bad R)) (rulesIn R) e in
+        not-bad R i (least-under (bad R) (rulesIn R) i (omega arith))

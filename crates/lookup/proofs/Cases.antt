@@ -1,0 +1,82 @@
+-- 01, A small bench list: the marked cases B1 to B12, as one table of rows and one statement about the definitions.
+-- A row has its mark, what a definition gives, and what 01 writes; both as numbers. Of a lookup these are what the answer says in the
+-- paper's words (`saysLooked`): the refusal's number and place, then 1, the rule and the tests, or 0 and the tests.
+-- Assumes nothing.
+use Prim.Native.Nat.{ℕ}
+use mathlib.Core.Bool.{Bool, true, false}
+use mathlib.Core.List.{List, [], _∷_}
+use lib.Dec.{T, eqb, ltb, leb}
+use Rattle.ranges.specs.Numbers.{pick, _and_, all, count, least, greatest, tab}
+use Rattle.ranges.specs.Refusals.{Said}
+use Rattle.ranges.specs.Sides.{endOf, sideOf}
+use Rattle.ranges.specs.Prefixes.{prefixFault, boundsOf, saysBounds}
+use Rattle.ranges.specs.Blocks.{blockFits, blockOf, prefixesFrom, prefixesOf, flat}
+use Rattle.lists.specs.Rules.{rulesIn, cellOf, lowOf, highOf}
+use Rattle.lists.specs.FirstMatch.{fits}
+use Rattle.lists.specs.Faults.{shapeFault}
+use Rattle.sorting.specs.Order.{standingOf, compare}
+use Rattle.sorting.specs.FirstFit.{fitOf, firstFit, parts}
+use Rattle.sorting.specs.Layout.{tableLength, orderAt, startAt, fromAt, toAt}
+use Rattle.sorting.specs.Table.{placeOf, ruleAt, startOf, runFrom, runTo, tableOf, builtTable}
+use Rattle.sorting.specs.Opening.{opening, openFault}
+use Rattle.sorting.proofs.Cases.{bench, benchTable, empty, emptyTable}
+use Rattle.lookup.specs.Walk.{runStands, stepAt, arrivedOf, walkFrom}
+use Rattle.lookup.specs.Lookup.{visitOf, lookupFrom, lookupOf, saysLooked}
+
+-- ---- a row
+pub record Row : Type 0 where
+  pub mark : ℕ
+  pub found : List ℕ
+  pub written : List ℕ
+
+abbrev row : ℕ → List ℕ → List ℕ → Row
+row b found written = record { mark = b; found = found; written = written }
+
+-- the same numbers
+abbrev same : List ℕ → List ℕ → Bool
+same [] [] = true
+same [] (y ∷ ys) = false
+same (x ∷ xs) [] = false
+same (x ∷ xs) (y ∷ ys) = eqb x y and same xs ys
+
+abbrev hold : List Row → Bool
+hold [] = true
+hold (r ∷ rs) = same (r .found) (r .written) and hold rs
+
+-- what is said, as numbers: a refusal's number and place, then what is answered
+abbrev numbers : Said → List ℕ
+numbers s = s .number ∷ s .at ∷ s .then ∷ s .answer
+
+-- a rule and the tests; none and the tests
+abbrev rule : ℕ → ℕ → List ℕ
+rule i t = 0 ∷ 0 ∷ 0 ∷ 1 ∷ i ∷ t ∷ []
+
+abbrev nothing : ℕ → List ℕ
+nothing t = 0 ∷ 0 ∷ 0 ∷ 0 ∷ t ∷ []
+
+-- ---- a header of two numbers, looked up in the bench table; the other six alter nothing
+abbrev asked : ℕ → ℕ → List ℕ
+asked x y = numbers (saysLooked (lookupOf bench benchTable (x ∷ y ∷ 1 ∷ 2 ∷ 3 ∷ 4 ∷ 5 ∷ 6 ∷ [])))
+
+-- ---- the cases
+pub cases : List Row
+cases =
+    row 1 (builtTable bench) benchTable
+    ∷ row 2 (asked 7 250) (rule 1 6)
+    ∷ row 3 (asked 7 100) (rule 0 7)
+    ∷ row 4 (asked 7 150) (rule 3 7)
+    ∷ row 5 (asked 8 5) (rule 2 6)
+    ∷ row 6 (asked 9 5) (rule 4 5)
+    ∷ row 7 (asked 10 0) (nothing 4)
+    ∷ row 8 (asked 7 1000) (nothing 6)
+    ∷ row 9 (builtTable empty) emptyTable
+    ∷ row 9 (numbers (saysLooked (lookupOf empty emptyTable (4294967295 ∷ 0 ∷ 0 ∷ 0 ∷ 0 ∷ 0 ∷ 0 ∷ 0 ∷ [])))) (nothing 0)
+    ∷ row 10 (flat (prefixesOf 5 16 23)) (16 ∷ 2 ∷ [])
+    ∷ row 11 (flat (prefixesOf 5 1 30)) (1 ∷ 5 ∷ 2 ∷ 4 ∷ 4 ∷ 3 ∷ 8 ∷ 2 ∷ 16 ∷ 2 ∷ 24 ∷ 3 ∷ 28 ∷ 4 ∷ 30 ∷ 5 ∷ [])
+    ∷ row 12 (flat (prefixesOf 32 0 4294967295)) (0 ∷ 0 ∷ [])
+    ∷ row 12 (numbers (saysBounds (boundsOf 32 0 0))) (0 ∷ 0 ∷ 0 ∷ 0 ∷ 4294967295 ∷ [])
+    ∷ []
+
+pub cases-hold : T (hold cases)
+unfolding cases all count least greatest tab endOf sideOf rulesIn cellOf lowOf highOf fits shapeFault standingOf compare fitOf firstFit parts tableLength orderAt startAt fromAt toAt placeOf ruleAt startOf runFrom runTo tableOf opening openFault runStands stepAt arrivedOf walkFrom visitOf lookupFrom lookupOf prefixesOf prefixesFrom blockOf blockFits prefixFault
+cases-hold = tt

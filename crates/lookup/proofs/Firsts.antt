@@ -1,0 +1,160 @@
+-- The lookup in a table that keeps the promise (`sorting`, `specs/Promise.antt`) is never refused, and its match is the first match.
+-- Each partition names its rule that fits (`Groups.antt`), every rule has a place in one of them, and so the smallest candidate of
+-- all is the smallest rule that fits.
+--     part-of-place            every place lies in a partition
+--     visit-finds              a partition names its rule that fits
+--     search-first             all partitions in order: the first match
+--     promise-opens            such a table opens
+--     lookup-first             the lookup
+-- Assumes nothing.
+use Prim.Native.Nat.{ℕ, zero, suc, _+_, _-_, min, _≤_, _<_}
+use mathlib.Core.Bool.{Bool, true, false}
+use mathlib.Core.List.{List}
+use mathlib.Core.Path.{_≡_, refl, sym, ap, _∙_, subst}
+use native.Mathlib.Omega.{arith}
+use lib.ListN.{length}
+use lib.Dec.{ltb}
+use borrow.Author.Tests.{ltb-true, ltb-false, eq-eqb}
+use Rattle.ranges.specs.Numbers.{least}
+use Rattle.ranges.specs.Refusals.{none}
+use Rattle.ranges.proofs.Numbers.{least-is, least-none}
+use Rattle.lists.specs.Rules.{Rules, fieldsOf, rulesIn}
+use Rattle.lists.specs.FirstMatch.{fits, firstMatch}
+use Rattle.lists.proofs.Rules.{Shaped}
+use Rattle.lists.proofs.Faults.{shape-stands}
+use Rattle.sorting.specs.Layout.{View, TableFor}
+use Rattle.sorting.specs.Opening.{opening, viewOf, openFault}
+use Rattle.sorting.specs.Promise.{InPart, Promise}
+use Rattle.sorting.proofs.Opening.{opening-last, open-stands}
+use Rattle.lookup.specs.Walk.{walkFrom}
+use Rattle.lookup.specs.Lookup.{visitOf, better, answerOf, lookupFrom, searchOf, lookupOf}
+use Rattle.lookup.specs.declared.walk.Found.{Found}
+use Rattle.lookup.specs.declared.walk.Found.the-variants.{Hit, Miss}
+use Rattle.lookup.specs.declared.walk.Walked.the-variants.{Ran}
+use Rattle.lookup.specs.declared.lookup.Looked.{Looked}
+use Rattle.lookup.proofs.Answers.{Matches, visit-fits, sooner-fits}
+use Rattle.lookup.proofs.Groups.{Finds, starts-within, held-first, walk-finds}
+use Rattle.lookup.proofs.Visits.{visit-walks, from-none, from-on}
+use Rattle.lookup.proofs.Lookups.{lookup-searches}
+
+module _ {R : Rules} {v : View} (promise : Promise R v) where
+  -- every place lies in a partition
+  place-below : (k p : ℕ) → k ≤ v .b → p < v .start k → (q : ℕ) × InPart v q p
+  place-below zero p le lt = absurd (omega (arith, promise .first-start))
+  place-below (suc k) p le lt = go (ltb p (v .start k)) refl (place-below k p (omega arith))
+    where
+      go : (t : Bool) → ltb p (v .start k) ≡ t → (p < v .start k → (q : ℕ) × InPart v q p) → (q : ℕ) × InPart v q p
+      go true e under = under (ltb-true p (v .start k) e)
+      go false e under = (k, record { part = le; from-start = ltb-false p (v .start k) e; to-next = lt })
+
+  pub part-of-place : (p : ℕ) → p < rulesIn R → (q : ℕ) × InPart v q p
+  part-of-place p lt = place-below (v .b) p (omega arith) (omega (arith, promise .last-start))
+
+  -- the starts ascend, so each is at least its number
+  start-over : (q : ℕ) → q ≤ v .b → q ≤ v .start q
+  start-over zero le = omega arith
+  start-over (suc q) le = omega (arith, start-over q (omega arith), promise .ascend q le)
+
+  pub parts-few : v .b ≤ rulesIn R
+  parts-few = omega (arith, start-over (v .b) (omega arith), promise .last-start)
+
+module _ {R : Rules} {v : View} (h : List ℕ) (promise : Promise R v) where
+  -- a partition names its rule that fits
+  pub visit-finds : (q : ℕ) → q < v .b → Finds R v h q (visitOf R v h q)
+  visit-finds q lt =
+      let within = starts-within promise (v .b - suc q) (suc q) (omega arith) in
+      let some = promise .ascend q lt in
+      rw (visit-walks R v h q some within)
+      (walk-finds h promise q (suc (rulesIn R + fieldsOf R)) (v .start q) (v .start (suc q)) 0 0 (omega arith) (omega arith) (held-first R v h q lt))
+
+  -- ---- what the partitions before q have named: a rule that fits or n, and none of their rules that fit is smaller
+  record Best (q best : ℕ) : Type 0 where
+    at-most : best ≤ rulesIn R
+    match : best < rulesIn R → Matches R h best
+    first : (p r : ℕ) → r < q → InPart v r p → fits R h (v .order p) ≡ true → best ≤ v .order p
+
+  -- nothing below it fits, once all are visited
+  none-under : (best : ℕ) → Best (v .b) best → (i : ℕ) → i < best → fits R h i ≡ false
+  none-under best named i lt = go (fits R h i) refl
+    where
+      go : (t : Bool) → fits R h i ≡ t → t ≡ false
+      go false e = refl
+      go true e =
+          let rule : i < rulesIn R = omega (arith, named .at-most) in
+          let at = promise .order-onto i rule in
+          let p = at .0 in
+          let part = part-of-place promise p (at .1) in
+          let fit : fits R h (v .order p) ≡ true = ap (fits R h) (at .2) ∙ e in
+          absurd (omega (arith, named .first p (part .0) (part .1 .part) (part .1) fit, at .2))
+
+  best-first : (best : ℕ) → Best (v .b) best → best ≡ firstMatch R h
+  unfolding firstMatch
+  best-first best named = go (ltb best (rulesIn R)) refl
+    where
+      go : (t : Bool) → ltb best (rulesIn R) ≡ t → best ≡ least (rulesIn R) (fits R h)
+      go true e =
+          let lt = ltb-true best (rulesIn R) e in
+          sym (least-is (fits R h) (rulesIn R) best lt (named .match lt .fit) (none-under best named))
+      go false e =
+          let is : best ≡ rulesIn R = omega (arith, ltb-false best (rulesIn R) e, named .at-most) in
+          is ∙ sym (least-none (fits R h) (rulesIn R) (λ k lt. none-under best named k (omega arith)))
+
+  -- ---- one partition more
+  better-le : (best : ℕ) (x : Found) → better best x ≤ best
+  better-le best Miss = omega arith
+  better-le best (Hit i) = omega arith
+
+  better-hit : (best i : ℕ) (x : Found) → x ≡ Hit i → better best x ≤ i
+  better-hit best i x is = rw is (min-le best i)
+    where
+      min-le : (a c : ℕ) → min a c ≤ c
+      min-le a c = omega arith
+
+  best-more : (q best : ℕ) → Best q best → (f : Finds R v h q (visitOf R v h q)) → Best (suc q) (better best (f .found))
+  best-more q best named f =
+      let less = better-le best (f .found) in
+      record {
+        at-most = omega (arith, named .at-most, less);
+        match = sooner-fits R v h best (f .found) (named .match) (λ i is. visit-fits R v h q i (f .tests) (f .is ∙ ap (λ x. Ran x (f .tests)) is));
+        first = λ p r lt in-r fit. go p r (ltb r q) refl lt in-r fit;
+      }
+    where
+      go : (p r : ℕ) (t : Bool) → ltb r q ≡ t → r < suc q → InPart v r p → fits R h (v .order p) ≡ true → better best (f .found) ≤ v .order p
+      go p r true e lt in-r fit = omega (arith, better-le best (f .found), named .first p r (ltb-true r q e) in-r fit)
+      go p r false e lt in-r fit =
+          let is : r ≡ q = omega (arith, ltb-false r q e) in
+          better-hit best (v .order p) (f .found) (f .finds p (subst (λ k. InPart v k p) is in-r) fit)
+
+  -- ---- all partitions in order
+  from-first : (k q best t : ℕ) → q + k ≡ v .b → Best q best → (u : ℕ) × (lookupFrom R v h k q best t ≡ answerOf R (firstMatch R h) u)
+  from-first zero q best t is named =
+      let at-b : q ≡ v .b = omega arith in
+      (t, from-none R v h q best t ∙ ap (λ m. answerOf R m t) (best-first best (subst (λ k. Best k best) at-b named)))
+  from-first (suc k) q best t is named =
+      let f = visit-finds q (omega arith) in
+      let rest = from-first k (suc q) (better best (f .found)) (t + f .tests) (omega arith) (best-more q best named f) in
+      (rest .0, from-on R v h k q best t (f .found) (f .tests) (f .is) ∙ rest .1)
+
+  pub search-first : (u : ℕ) × (searchOf R v h ≡ answerOf R (firstMatch R h) u)
+  search-first =
+      from-first (v .b) 0 (rulesIn R) 0 (omega arith)
+      record {
+        at-most = omega arith;
+        match = λ lt. absurd (omega arith);
+        first = λ p r lt. absurd (omega arith);
+      }
+
+-- ---- the lookup
+module _ (R : Rules) (T : List ℕ) (shape : Shaped R) (sized : TableFor (rulesIn R) (fieldsOf R) T) (promise : Promise R (viewOf R T)) where
+  -- such a table opens
+  pub promise-opens : openFault R T ≡ none
+  promise-opens =
+      let v = viewOf R T in
+      open-stands R T (ap (λ x. x .number) (shape-stands R (shape .some-fields) (shape .few-fields) (sym (shape .whole)) (shape .few-rules))) (sized .long)
+      (opening-last (rulesIn R) (fieldsOf R) v (promise .rules) (promise .fields) (parts-few promise) (promise .first-start)
+      ∙ eq-eqb (v .start (v .b)) (rulesIn R) (promise .last-start))
+
+  pub lookup-first : (h : List ℕ) → (u : ℕ) × (lookupOf R T h ≡ answerOf R (firstMatch R h) u)
+  lookup-first h =
+      let found = search-first h promise in
+      (found .0, lookup-searches R T h (ap (λ x. x .number) promise-opens) ∙ found .1)

@@ -1,0 +1,115 @@
+-- The count of a lookup that is not refused is the sum of the tests of its partitions, each at most d + k for a partition of m rules,
+-- 2^k being the largest power of two within m.
+--     power-within               every number from 1 on has one
+--     visit-tests                a partition's tests
+--     sum-le                     a sum of smaller summands
+--     lookup-sum                 the count is the sum
+--     none-costs-none            an empty list costs none
+-- Assumes nothing.
+use Prim.Native.Nat.{ℕ, zero, suc, _+_, _-_, _^_, _≤_, _<_}
+use mathlib.Core.Bool.{Bool, true, false}
+use mathlib.Core.List.{List}
+use mathlib.Core.Path.{_≡_, refl, sym, ap, _∙_}
+use native.Mathlib.Omega.{arith}
+use lib.Dec.{ltb, eqb}
+use lib.Pow.{pow-pos}
+use borrow.Author.Tests.{le-ltb, ltb-true, ltb-false, eqb-true}
+use Rattle.ranges.specs.Numbers.{pick}
+use Rattle.ranges.proofs.Numbers.{never}
+use Rattle.lists.specs.Rules.{Rules, fieldsOf, rulesIn}
+use Rattle.sorting.specs.Layout.{View}
+use Rattle.sorting.specs.Opening.{viewOf, openFault}
+use Rattle.sorting.proofs.Opening.{opened}
+use Rattle.lookup.specs.Lookup.{visitOf, better, afterVisit, answerOf, lookupFrom, searchOf, lookupOf, testsIn}
+use Rattle.lookup.specs.Bounds.{PowerWithin, testsOf, sumFrom, refuses}
+use Rattle.lookup.specs.declared.walk.Walked.{Walked}
+use Rattle.lookup.specs.declared.walk.Walked.the-variants.{Ran, Broken}
+use Rattle.lookup.specs.declared.lookup.Looked.the-variants.{Rule, Nothing, Refused}
+use Rattle.lookup.proofs.Counts.{walk-few}
+use Rattle.lookup.proofs.Visits.{visited-walks, from-none}
+use Rattle.lookup.proofs.Lookups.{lookup-searches}
+
+-- ---- the largest power of two within a number
+power-more : (m k : ℕ) → PowerWithin m k → (t : Bool) → ltb (suc m) (2 ^ suc k) ≡ t → (j : ℕ) × PowerWithin (suc m) j
+power-more m k p true e = (k, record { within = omega (arith, p .within); largest = ltb-true (suc m) (2 ^ suc k) e })
+power-more m k p false e =
+    let past = ltb-false (suc m) (2 ^ suc k) e in
+    (suc k, record { within = past; largest = omega (arith, p .largest, p .within, pow-pos k) })
+
+pub power-within : (m : ℕ) → 1 ≤ m → (k : ℕ) × PowerWithin m k
+power-within zero le = absurd (omega arith)
+power-within (suc zero) le = (0, record { within = omega arith; largest = omega arith })
+power-within (suc (suc m)) le =
+    let under = power-within (suc m) (omega arith) in
+    power-more (suc m) (under .0) (under .1) (ltb (suc (suc m)) (2 ^ suc (under .0))) refl
+
+-- ---- a partition
+pub visit-tests : (R : Rules) (v : View) (h : List ℕ) (q k : ℕ) → PowerWithin (v .start (suc q) - v .start q) k → testsOf (visitOf R v h q) ≤ fieldsOf R + k
+visit-tests R v h q k power = go (visitOf R v h q) refl
+  where
+    go : (w : Walked) → visitOf R v h q ≡ w → testsOf w ≤ fieldsOf R + k
+    go Broken is = omega arith
+    go (Ran x u) is =
+        let w = visited-walks R v h q x u is in
+        let few = walk-few R v h (suc (rulesIn R + fieldsOf R)) (v .start q) (v .start (suc q)) 0 0 (suc k) (w .some) (omega arith) (power .largest) x u (w .walks) in
+        omega (arith, few)
+
+-- ---- sums
+pub sum-le : (k q : ℕ) (g f : ℕ → ℕ) → ((j : ℕ) → q ≤ j → j < q + k → g j ≤ f j) → sumFrom k q g ≤ sumFrom k q f
+unfolding sumFrom
+sum-le zero q g f h = omega arith
+sum-le (suc k) q g f h =
+    let here = h q (omega arith) (omega arith) in
+    let rest = sum-le k (suc q) g f (λ j a b. h j (omega arith) (omega arith)) in
+    omega arith
+
+-- ---- the count
+module _ (R : Rules) (v : View) (h : List ℕ) where
+  -- what each visit adds
+  abbrev added : ℕ → ℕ
+  added q = testsOf (visitOf R v h q)
+
+  answer-tests : (best t : ℕ) → testsIn (answerOf R best t) ≡ t
+  answer-tests best t = go (ltb best (rulesIn R))
+    where
+      go : (p : Bool) → testsIn (pick p (Rule best t) (Nothing t)) ≡ t
+      go true = refl
+      go false = refl
+
+  from-sum : (k q best t : ℕ) → refuses (lookupFrom R v h k q best t) ≡ false → testsIn (lookupFrom R v h k q best t) ≡ t + sumFrom k q added
+  unfolding lookupFrom sumFrom
+  from-sum zero q best t fine = omega (arith, answer-tests best t)
+  from-sum (suc k) q best t fine = go (visitOf R v h q) (from-sum k) fine
+    where
+      go : (w : Walked) → ((q best t : ℕ) → refuses (lookupFrom R v h k q best t) ≡ false → testsIn (lookupFrom R v h k q best t) ≡ t + sumFrom k q added)
+          → refuses (afterVisit w (λ x u. lookupFrom R v h k (suc q) (better best x) (t + u))) ≡ false
+          → testsIn (afterVisit w (λ x u. lookupFrom R v h k (suc q) (better best x) (t + u))) ≡ t + (testsOf w + sumFrom k (suc q) added)
+      go Broken rest fine = never (cc)
+      go (Ran x u) rest fine = omega (arith, rest (suc q) (better best x) (t + u) fine)
+
+module _ (R : Rules) (T h : List ℕ) where
+  -- a lookup that is not refused opens
+  fine-opens : refuses (lookupOf R T h) ≡ false → openFault R T .number ≡ 0
+  unfolding lookupOf
+  fine-opens = go (eqb (openFault R T .number) 0) refl
+    where
+      go : (p : Bool) → eqb (openFault R T .number) 0 ≡ p → refuses (pick p (searchOf R (viewOf R T) h) (Refused (openFault R T))) ≡ false → openFault R T .number ≡ 0
+      go true e fine = eqb-true (openFault R T .number) 0 e
+      go false e fine = never (cc)
+
+  pub lookup-sum : refuses (lookupOf R T h) ≡ false
+      → testsIn (lookupOf R T h) ≡ sumFrom (viewOf R T .b) 0 (λ q. testsOf (visitOf R (viewOf R T) h q))
+  lookup-sum fine =
+      let search = lookup-searches R T h (fine-opens fine) in
+      let v = viewOf R T in
+      ap testsIn search ∙ from-sum R v h (v .b) 0 (rulesIn R) 0 (ap refuses (sym search) ∙ fine) ∙ add-none (sumFrom (v .b) 0 (added R v h))
+    where
+      add-none : (n : ℕ) → 0 + n ≡ n
+      add-none n = omega arith
+
+  pub none-costs-none : rulesIn R ≡ 0 → openFault R T .number ≡ 0 → lookupOf R T h ≡ Nothing 0
+  none-costs-none none z =
+      let few = opened R T z .few-parts in
+      let no-parts : viewOf R T .b ≡ 0 = omega arith in
+      lookup-searches R T h z ∙ ap (λ b. lookupFrom R (viewOf R T) h b 0 (rulesIn R) 0) no-parts ∙ from-none R (viewOf R T) h 0 (rulesIn R) 0
+      ∙ rw (le-ltb (rulesIn R) (rulesIn R) (omega arith))

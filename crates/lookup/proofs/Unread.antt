@@ -1,0 +1,84 @@
+-- Only the first d numbers of a header are read: two headers that agree on them get the same answer.
+-- Every test reads the number of a field below d, and the confirming comparison reads those of all d fields; so step by step the two
+-- walks are one.
+--     step-same, arrived-same, walk-same, visit-same, from-same      step by step
+--     lookup-same                                                    the lookup
+-- Assumes nothing.
+use Prim.Native.Nat.{ℕ, zero, suc, _+_, _<_}
+use mathlib.Core.Bool.{Bool, true, false}
+use mathlib.Core.List.{List}
+use mathlib.Core.Path.{_≡_, refl, sym, ap, _∙_}
+use native.Mathlib.Omega.{arith}
+use lib.ListN.{getD}
+use lib.Dec.{leb}
+use borrow.Author.Tests.{leb-false}
+use Rattle.ranges.specs.Numbers.{pick, _and_, all}
+use Rattle.ranges.specs.Refusals.{stands}
+use Rattle.ranges.specs.Sides.{sideOf}
+use Rattle.lists.specs.Rules.{Rules, fieldsOf, rulesIn, lowOf, highOf}
+use Rattle.lists.specs.FirstMatch.{insideAt, fits}
+use Rattle.sorting.specs.Layout.{View}
+use Rattle.sorting.specs.Opening.{viewOf, openFault}
+use Rattle.lookup.specs.Walk.{stepAt, stepOf, afterStep, arrivedOf, walkFrom}
+use Rattle.lookup.specs.Lookup.{visitOf, better, afterVisit, lookupFrom, searchOf, lookupOf}
+use Rattle.lookup.specs.declared.walk.Found.the-variants.{Miss}
+use Rattle.lookup.specs.declared.walk.Walked.{Walked}
+use Rattle.lookup.specs.declared.walk.Walked.the-variants.{Ran, Broken}
+use Rattle.lookup.specs.declared.walk.Step.{Step}
+use Rattle.lookup.specs.declared.walk.Step.the-variants.{On, Fault}
+use Rattle.lookup.specs.declared.lookup.Looked.the-variants.{Refused}
+
+-- two headers agree on the first d numbers
+pub record Agree (d : ℕ) (h h′ : List ℕ) : Type 0 where
+  pub same : (f : ℕ) → f < d → getD h f 0 ≡ getD h′ f 0
+
+-- two tests that agree below n
+all-same : (P Q : ℕ → Bool) (n : ℕ) → ((k : ℕ) → k < n → P k ≡ Q k) → all n P ≡ all n Q
+unfolding all
+all-same P Q zero h = refl
+all-same P Q (suc n) h = rw (all-same P Q n (λ k l. h k (omega arith)), h n (omega arith))
+
+module _ (R : Rules) (v : View) (h h′ : List ℕ) (agree : Agree (fieldsOf R) h h′) where
+  fits-same : (i : ℕ) → fits R h i ≡ fits R h′ i
+  unfolding fits
+  fits-same i = all-same (insideAt R h i) (insideAt R h′ i) (fieldsOf R) (λ f lt. rw (agree .same f lt))
+
+  step-same : (s e f : ℕ) → f < fieldsOf R → stepOf R v h s e f ≡ stepOf R v h′ s e f
+  unfolding stepAt
+  step-same s e f lt = rw (agree .same f lt)
+
+  arrived-same : (s e t : ℕ) → arrivedOf R v h s e t ≡ arrivedOf R v h′ s e t
+  unfolding arrivedOf
+  arrived-same s e t = rw (fits-same (v .order s))
+
+  walk-same : (k s e f t : ℕ) → walkFrom R v h k s e f t ≡ walkFrom R v h′ k s e f t
+  unfolding walkFrom
+  walk-same zero s e f t = refl
+  walk-same (suc k) s e f t = go (leb (fieldsOf R) f) refl (stepOf R v h s e f) refl (walk-same k)
+    where
+      go : (p : Bool) → leb (fieldsOf R) f ≡ p → (x : Step) → stepOf R v h s e f ≡ x
+          → ((s e f t : ℕ) → walkFrom R v h k s e f t ≡ walkFrom R v h′ k s e f t)
+          → pick (leb e s) (Ran Miss t) (pick p (arrivedOf R v h s e t) (afterStep x (λ s′ e′ f′. walkFrom R v h k s′ e′ f′ (t + 1))))
+          ≡ pick (leb e s) (Ran Miss t) (pick p (arrivedOf R v h′ s e t) (afterStep (stepOf R v h′ s e f) (λ s′ e′ f′. walkFrom R v h′ k s′ e′ f′ (t + 1))))
+      go true is-p x is-x rest = rw (arrived-same s e t)
+      go false is-p Fault is-x rest = rw (sym (step-same s e f (leb-false (fieldsOf R) f is-p)) ∙ is-x)
+      go false is-p (On s′ e′ f′) is-x rest = rw (sym (step-same s e f (leb-false (fieldsOf R) f is-p)) ∙ is-x, rest s′ e′ f′ (t + 1))
+
+  visit-same : (q : ℕ) → visitOf R v h q ≡ visitOf R v h′ q
+  unfolding visitOf
+  visit-same q = rw (walk-same (suc (rulesIn R + fieldsOf R)) (v .start q) (v .start (suc q)) 0 0)
+
+  from-same : (k q best t : ℕ) → lookupFrom R v h k q best t ≡ lookupFrom R v h′ k q best t
+  unfolding lookupFrom
+  from-same zero q best t = refl
+  from-same (suc k) q best t = go (visitOf R v h q) (sym (visit-same q)) (from-same k)
+    where
+      go : (w : Walked) → visitOf R v h′ q ≡ w → ((q best t : ℕ) → lookupFrom R v h k q best t ≡ lookupFrom R v h′ k q best t)
+          → afterVisit w (λ x u. lookupFrom R v h k (suc q) (better best x) (t + u))
+          ≡ afterVisit (visitOf R v h′ q) (λ x u. lookupFrom R v h′ k (suc q) (better best x) (t + u))
+      go Broken is rest = rw is
+      go (Ran x u) is rest = rw (is, rest (suc q) (better best x) (t + u))
+
+pub lookup-same : (R : Rules) (T h h′ : List ℕ) → Agree (fieldsOf R) h h′ → lookupOf R T h ≡ lookupOf R T h′
+unfolding lookupOf
+lookup-same R T h h′ agree = rw (from-same R (viewOf R T) h h′ agree (viewOf R T .b) 0 (rulesIn R) 0)

@@ -1,0 +1,160 @@
+-- Laws of a partition visited and of all of them in order (`specs/Lookup.antt`).
+--     visit-none, visit-past, visit-walks      no place; an end past n; the walk
+--     visit-few                                a partition's tests are at most 18
+--     from-none, from-broken, from-on          no partition left; a broken one; one visited
+--     Visited, visited-..                      what `visit_all` keeps at its loop's head, its turn and its ways out
+-- Assumes nothing.
+use Prim.Native.Nat.{ℕ, zero, suc, _+_, _-_, _*_, min, _≤_, _<_}
+use mathlib.Core.Bool.{Bool, true, false}
+use mathlib.Core.List.{List}
+use mathlib.Core.Path.{_≡_, refl, sym, ap, _∙_}
+use native.Mathlib.Omega.{arith}
+use native.Mathlib.Numerals.{add-one}
+use lib.Dec.{ltb, leb}
+use borrow.Author.Tests.{lt-ltb, le-ltb, le-leb, lt-leb, ltb-true, leb-true}
+use Rattle.ranges.specs.Numbers.{pick, _and_}
+use Rattle.ranges.specs.Refusals.{refused, BrokenTable}
+use Rattle.ranges.proofs.Numbers.{never}
+use Rattle.lists.specs.Rules.{Rules, fieldsOf, rulesIn}
+use Rattle.sorting.specs.Layout.{View}
+use Rattle.sorting.specs.Opening.{partStands}
+use Rattle.lookup.specs.Walk.{walkFrom}
+use Rattle.lookup.specs.Lookup.{visitOf, better, afterVisit, answerOf, lookupFrom}
+use Rattle.lookup.specs.declared.walk.Found.{Found}
+use Rattle.lookup.specs.declared.walk.Found.the-variants.{Hit, Miss}
+use Rattle.lookup.specs.declared.walk.Walked.{Walked}
+use Rattle.lookup.specs.declared.walk.Walked.the-variants.{Ran, Broken}
+use Rattle.lookup.specs.declared.lookup.Looked.{Looked}
+use Rattle.lookup.specs.declared.lookup.Looked.the-variants.{Rule, Nothing, Refused}
+use Rattle.lookup.proofs.Counts.{walk-few-18}
+
+-- ---- a partition
+module _ (R : Rules) (v : View) (h : List ℕ) (q : ℕ) where
+  pub visit-none : v .start (suc q) ≤ v .start q → visitOf R v h q ≡ Broken
+  unfolding visitOf
+  visit-none le = rw (le-ltb (v .start q) (v .start (suc q)) le)
+
+  module _ (some : v .start q < v .start (suc q)) where
+    pub visit-past : rulesIn R < v .start (suc q) → visitOf R v h q ≡ Broken
+    unfolding visitOf
+    visit-past past = rw (lt-ltb (v .start q) (v .start (suc q)) some, lt-leb (v .start (suc q)) (rulesIn R) past)
+
+    pub visit-walks : v .start (suc q) ≤ rulesIn R
+        → visitOf R v h q ≡ walkFrom R v h (suc (rulesIn R + fieldsOf R)) (v .start q) (v .start (suc q)) 0 0
+    unfolding visitOf
+    visit-walks le = rw (lt-ltb (v .start q) (v .start (suc q)) some, le-leb (v .start (suc q)) (rulesIn R) le)
+
+  -- what an answer says: the partition has a place and ends within the n places, and the walk answered
+  pub record Walks (x : Found) (u : ℕ) : Type 0 where
+    pub some : v .start q < v .start (suc q)
+    pub within : v .start (suc q) ≤ rulesIn R
+    pub walks : walkFrom R v h (suc (rulesIn R + fieldsOf R)) (v .start q) (v .start (suc q)) 0 0 ≡ Ran x u
+
+  pub visited-walks : (x : Found) (u : ℕ) → visitOf R v h q ≡ Ran x u → Walks x u
+  unfolding visitOf
+  visited-walks x u = go (ltb (v .start q) (v .start (suc q))) (leb (v .start (suc q)) (rulesIn R)) refl refl
+    where
+      go : (p r : Bool) → ltb (v .start q) (v .start (suc q)) ≡ p → leb (v .start (suc q)) (rulesIn R) ≡ r
+          → pick (p and r) (walkFrom R v h (suc (rulesIn R + fieldsOf R)) (v .start q) (v .start (suc q)) 0 0) Broken ≡ Ran x u → Walks x u
+      go false r is-p is-r is = never (cc)
+      go true false is-p is-r is = never (cc)
+      go true true is-p is-r is =
+          record { some = ltb-true (v .start q) (v .start (suc q)) is-p; within = leb-true (v .start (suc q)) (rulesIn R) is-r; walks = is }
+
+  pub visit-few : rulesIn R ≤ 1024 → fieldsOf R ≤ 8 → (x : Found) (u : ℕ) → visitOf R v h q ≡ Ran x u → u ≤ 18
+  visit-few few-rules few-fields x u is =
+      let w = visited-walks x u is in
+      let few : v .start (suc q) ≤ 1024 = omega arith in
+      walk-few-18 R v h (suc (rulesIn R + fieldsOf R)) (v .start q) (v .start (suc q)) (w .some) few few-fields x u (w .walks)
+
+-- as the code works it out: s and e are the starts of q and of the next
+module _ (R : Rules) (v : View) (h : List ℕ) (n q s e : ℕ) (is-n : n ≡ rulesIn R) (is-s : s ≡ v .start q) (is-e : e ≡ v .start (q + 1)) where
+  next : e ≡ v .start (suc q)
+  next = is-e ∙ ap (v .start) (add-one q)
+
+  pub by-none : e ≤ s → visitOf R v h q ≡ Broken
+  by-none le = visit-none R v h q (omega (arith, next))
+
+  module _ (some : s < e) where
+    some-places : v .start q < v .start (suc q)
+    some-places = omega (arith, next)
+
+    pub by-past : n < e → visitOf R v h q ≡ Broken
+    by-past past = visit-past R v h q some-places (omega (arith, next))
+
+    pub by-walk : e ≤ n → (w : Walked) → ((k : ℕ) → (e - s) + (fieldsOf R - 0) < k → w ≡ walkFrom R v h k s e 0 0) → w ≡ visitOf R v h q
+    by-walk le w walked =
+        let within : v .start (suc q) ≤ rulesIn R = omega (arith, next) in
+        walked (suc (rulesIn R + fieldsOf R)) (omega arith)
+        ∙ rw (is-s, next) (sym (visit-walks R v h q some-places within))
+
+-- ---- all partitions in order
+module _ (R : Rules) (v : View) (h : List ℕ) where
+  pub from-none : (q best t : ℕ) → lookupFrom R v h 0 q best t ≡ answerOf R best t
+  unfolding lookupFrom
+  from-none q best t = refl
+
+  module _ (k q best t : ℕ) where
+    pub from-broken : visitOf R v h q ≡ Broken → lookupFrom R v h (suc k) q best t ≡ Refused (refused BrokenTable)
+    unfolding lookupFrom
+    from-broken is = rw is
+
+    pub from-on : (x : Found) (u : ℕ) → visitOf R v h q ≡ Ran x u → lookupFrom R v h (suc k) q best t ≡ lookupFrom R v h k (suc q) (better best x) (t + u)
+    unfolding lookupFrom
+    from-on x u is = rw is
+
+-- ---- at the loop's head: partitions 0 to before q, of b, are visited, and what is left decides the answer
+pub record Visited (R : Rules) (v : View) (h : List ℕ) (n b q best t : ℕ) : Type 0 where
+  pub in-order : q ≤ b
+  pub few-tests : t ≤ q * 18
+  pub rest : (k : ℕ) → q + k ≡ b → lookupFrom R v h b 0 n 0 ≡ lookupFrom R v h k q best t
+
+pub visited-none : (R : Rules) (v : View) (h : List ℕ) (n b : ℕ) → Visited R v h n b 0 n 0
+visited-none R v h n b =
+    record {
+      in-order = omega arith;
+      few-tests = omega arith;
+      rest = λ k is. let is-b : b ≡ k = omega arith in ap (λ j. lookupFrom R v h j 0 n 0) is-b;
+    }
+
+module _ {R : Rules} {v : View} {h : List ℕ} {n b q best t : ℕ} (seen : Visited R v h n b q best t) where
+  pub visited-broken : q < b → visitOf R v h q ≡ Broken → lookupFrom R v h b 0 n 0 ≡ Refused (refused BrokenTable)
+  visited-broken lt is = seen .rest (suc (b - q - 1)) (omega arith) ∙ from-broken R v h (b - q - 1) q best t is
+
+  pub visited-all : b ≤ q → lookupFrom R v h b 0 n 0 ≡ answerOf R best t
+  visited-all le = seen .rest 0 (omega (arith, seen .in-order)) ∙ from-none R v h q best t
+
+  pub visited-more : rulesIn R ≤ 1024 → fieldsOf R ≤ 8 → q < b → (x : Found) (u : ℕ) → visitOf R v h q ≡ Ran x u
+      → Visited R v h n b (q + 1) (better best x) (t + u)
+  visited-more few-rules few-fields lt x u is =
+      record {
+        in-order = omega arith;
+        few-tests = omega (arith, visit-few R v h q few-rules few-fields x u is, seen .few-tests);
+        rest = λ k is-b. seen .rest (suc k) (omega arith) ∙ from-on R v h k q best t x u is ∙ ap (λ j. lookupFrom R v h k j (better best x) (t + u)) (sym (add-one q));
+      }
+
+  -- the same, by what was found
+  module _ (few-rules : rulesIn R ≤ 1024) (few-fields : fieldsOf R ≤ 8) (lt : q < b) (x : Found) (u : ℕ) (is : visitOf R v h q ≡ Ran x u) where
+    pub visited-miss : x ≡ Miss → Visited R v h n b (q + 1) best (t + u)
+    visited-miss is-x = visited-more few-rules few-fields lt Miss u (is ∙ ap (λ y. Ran y u) is-x)
+
+    pub visited-sooner : (i : ℕ) → x ≡ Hit i → i < best → Visited R v h n b (q + 1) i (t + u)
+    visited-sooner i is-x less =
+        let first : min best i ≡ i = omega arith in
+        rw first at (visited-more few-rules few-fields lt (Hit i) u (is ∙ ap (λ y. Ran y u) is-x))
+
+    pub visited-later : (i : ℕ) → x ≡ Hit i → best ≤ i → Visited R v h n b (q + 1) best (t + u)
+    visited-later i is-x le =
+        let first : min best i ≡ best = omega arith in
+        rw first at (visited-more few-rules few-fields lt (Hit i) u (is ∙ ap (λ y. Ran y u) is-x))
+
+  -- all are visited: a match, or none
+  pub visited-match : b ≤ q → n ≡ rulesIn R → best < n → lookupFrom R v h b 0 n 0 ≡ Rule best t
+  visited-match le is-n lt =
+      let under : best < rulesIn R = omega arith in
+      visited-all le ∙ rw (lt-ltb best (rulesIn R) under)
+
+  pub visited-nothing : b ≤ q → n ≡ rulesIn R → n ≤ best → lookupFrom R v h b 0 n 0 ≡ Nothing t
+  visited-nothing le is-n past =
+      let over : rulesIn R ≤ best = omega arith in
+      visited-all le ∙ rw (le-ltb best (rulesIn R) over)

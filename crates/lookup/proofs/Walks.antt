@@ -1,0 +1,86 @@
+-- Laws of the walk (`specs/Walk.antt`): its four turns, each from the tests that lead to it. k is one less than the tests that it
+-- may still make.
+--     walk-empty, walk-arrives, walk-breaks, walk-on      an empty group, field d, a broken step, a step
+--     every-empty, every-arrives, every-breaks, every-on  the same for every k that is enough
+--     walk-holds                                          what each turn keeps holds of every walk
+-- Assumes nothing.
+use Prim.Native.Nat.{ℕ, zero, suc, _+_, _≤_, _<_}
+use mathlib.Core.Bool.{Bool, true, false}
+use mathlib.Core.List.{List}
+use mathlib.Core.Path.{_≡_, refl, sym, _∙_}
+use native.Mathlib.Omega.{arith}
+use lib.Dec.{leb}
+use borrow.Author.Tests.{le-leb, lt-leb, leb-true, leb-false}
+use Rattle.ranges.specs.Numbers.{pick}
+use Rattle.lists.specs.Rules.{Rules, fieldsOf}
+use Rattle.sorting.specs.Layout.{View}
+use Rattle.lookup.specs.Walk.{stepOf, afterStep, arrivedOf, walkFrom}
+use Rattle.lookup.specs.declared.walk.Found.the-variants.{Miss}
+use Rattle.lookup.specs.declared.walk.Walked.{Walked}
+use Rattle.lookup.specs.declared.walk.Walked.the-variants.{Ran, Broken}
+use Rattle.lookup.specs.declared.walk.Step.{Step}
+use Rattle.lookup.specs.declared.walk.Step.the-variants.{On, Fault}
+
+module _ (R : Rules) (v : View) (h : List ℕ) (k s e f t : ℕ) where
+  pub walk-empty : e ≤ s → walkFrom R v h (suc k) s e f t ≡ Ran Miss t
+  unfolding walkFrom
+  walk-empty none = rw (le-leb e s none)
+
+  pub walk-arrives : s < e → fieldsOf R ≤ f → walkFrom R v h (suc k) s e f t ≡ arrivedOf R v h s e t
+  unfolding walkFrom
+  walk-arrives some at-end = rw (lt-leb e s some, le-leb (fieldsOf R) f at-end)
+
+  module _ (some : s < e) (in-row : f < fieldsOf R) where
+    pub walk-breaks : stepOf R v h s e f ≡ Fault → walkFrom R v h (suc k) s e f t ≡ Broken
+    unfolding walkFrom
+    walk-breaks is = rw (lt-leb e s some, lt-leb (fieldsOf R) f in-row, is)
+
+    pub walk-on : (s′ e′ f′ : ℕ) → stepOf R v h s e f ≡ On s′ e′ f′ → walkFrom R v h (suc k) s e f t ≡ walkFrom R v h k s′ e′ f′ (t + 1)
+    unfolding walkFrom
+    walk-on s′ e′ f′ is = rw (lt-leb e s some, lt-leb (fieldsOf R) f in-row, is)
+
+-- the same for every number of tests that is enough, as the code's contract has it: more than m, group size plus remaining fields
+module _ (R : Rules) (v : View) (h : List ℕ) (s e f t m : ℕ) (w : Walked) where
+  -- w is what the walk answers
+  abbrev Answers : Type 0
+  Answers = (k : ℕ) → m < k → w ≡ walkFrom R v h k s e f t
+
+  pub every-empty : e ≤ s → w ≡ Ran Miss t → Answers
+  every-empty none is zero lt = absurd (omega arith)
+  every-empty none is (suc k) lt = is ∙ sym (walk-empty R v h k s e f t none)
+
+  pub every-arrives : s < e → fieldsOf R ≤ f → w ≡ arrivedOf R v h s e t → Answers
+  every-arrives some at-end is zero lt = absurd (omega arith)
+  every-arrives some at-end is (suc k) lt = is ∙ sym (walk-arrives R v h k s e f t some at-end)
+
+  module _ (some : s < e) (in-row : f < fieldsOf R) where
+    pub every-breaks : stepOf R v h s e f ≡ Fault → w ≡ Broken → Answers
+    every-breaks step is zero lt = absurd (omega arith)
+    every-breaks step is (suc k) lt = is ∙ sym (walk-breaks R v h k s e f t some in-row step)
+
+    pub every-on : (s′ e′ f′ m′ : ℕ) → stepOf R v h s e f ≡ On s′ e′ f′ → m′ < m
+        → ((k : ℕ) → m′ < k → w ≡ walkFrom R v h k s′ e′ f′ (t + 1)) → Answers
+    every-on s′ e′ f′ m′ step falls rest zero lt = absurd (omega arith)
+    every-on s′ e′ f′ m′ step falls rest (suc k) lt = rest k (omega arith) ∙ sym (walk-on R v h k s e f t some in-row s′ e′ f′ step)
+
+-- ---- what holds of every walk
+-- P says something of a walk's places s to before e, field f and tests t, and of what it answers
+module _ (R : Rules) (v : View) (h : List ℕ) (P : ℕ → ℕ → ℕ → ℕ → Walked → Type 0)
+    (broken : (s e f t : ℕ) → P s e f t Broken)
+    (empty : (s e f t : ℕ) → e ≤ s → P s e f t (Ran Miss t))
+    (arrives : (s e f t : ℕ) → s < e → fieldsOf R ≤ f → P s e f t (arrivedOf R v h s e t))
+    (goes : (s e f t : ℕ) → s < e → f < fieldsOf R → (s′ e′ f′ : ℕ) → stepOf R v h s e f ≡ On s′ e′ f′ → (w : Walked) → P s′ e′ f′ (t + 1) w → P s e f t w)
+  where
+    pub walk-holds : (k s e f t : ℕ) → P s e f t (walkFrom R v h k s e f t)
+    unfolding walkFrom
+    walk-holds zero s e f t = broken s e f t
+    walk-holds (suc k) s e f t = go (leb e s) refl (leb (fieldsOf R) f) refl (stepOf R v h s e f) refl (walk-holds k)
+      where
+        go : (p : Bool) → leb e s ≡ p → (q : Bool) → leb (fieldsOf R) f ≡ q → (x : Step) → stepOf R v h s e f ≡ x
+            → ((s′ e′ f′ t′ : ℕ) → P s′ e′ f′ t′ (walkFrom R v h k s′ e′ f′ t′))
+            → P s e f t (pick p (Ran Miss t) (pick q (arrivedOf R v h s e t) (afterStep x (λ s′ e′ f′. walkFrom R v h k s′ e′ f′ (t + 1)))))
+        go true is-p q is-q x is-x rest = empty s e f t (leb-true e s is-p)
+        go false is-p true is-q x is-x rest = arrives s e f t (leb-false e s is-p) (leb-true (fieldsOf R) f is-q)
+        go false is-p false is-q Fault is-x rest = broken s e f t
+        go false is-p false is-q (On s′ e′ f′) is-x rest =
+            goes s e f t (leb-false e s is-p) (leb-false (fieldsOf R) f is-q) s′ e′ f′ is-x (walkFrom R v h k s′ e′ f′ (t + 1)) (rest s′ e′ f′ (t + 1))

@@ -1,0 +1,147 @@
+-- `lookup::lookup::visit_all` meets its contract. At the loop's head the partitions before q are visited, and what is left decides
+-- the answer (`Visits.antt`: `Visited`); the measure is how many are left. The total stays small: at most 18 tests a partition.
+-- Assumes nothing.
+use borrow.Author.Needs.{needs}
+use mathlib.Core.Path.{_≡_, refl, sym, ap, _∙_}
+use native.Mathlib.Omega.{arith}
+use Prim.Native.Nat.{_-_}
+use Rattle.lists.specs.Rules.{listed}
+use Rattle.sorting.specs.Layout.{view}
+use Rattle.lookup.specs.declared.lookup.Looked.the-variants.{Refused}
+use Rattle.lookup.proofs.Within.{few-rules}
+use Rattle.lookup.proofs.Visits.{Visited, visit-few, visited-none, visited-broken, visited-miss, visited-sooner, visited-later, visited-match, visited-nothing}
+use Rattle.lookup.proofs.lookup.visit_all.Statement.{statement}
+use Rattle.lookup.proofs.lookup.visit_all.Tie as tie
+use Rattle.lookup.proofs.lookup.visit_all.Reads as reads
+use Rattle.lookup.proofs.lookup.visit_all.Lts as lts
+use Rattle.lookup.proofs.lookup.visit.Reads as visit-reads
+use Rattle.ranges.proofs.refusal.refuse.Reads as refuse-reads
+
+abbrev Inv-loop : tie.InvT-loop
+Inv-loop shape n b list table header q₀ best₀ total₀ q best total = Visited (listed shape list) (view n (shape .d) table) header n b q best total
+
+abbrev μ-loop : tie.MeasureT-loop
+μ-loop shape n b list table header q₀ best₀ total₀ q best total = b - q
+
+loop-holds : tie.Need-loop-holds Inv-loop μ-loop
+loop-holds c = visited-none _ _ _ _ _
+
+visit-requires : tie.Need-visit-requires Inv-loop μ-loop
+visit-requires c κs = search needs
+
+enum-known-walked : tie.Need-enum-known-walked Inv-loop μ-loop
+enum-known-walked c = search needs
+
+enum-told : tie.Need-enum-told Inv-loop μ-loop
+enum-told c = search needs
+
+refuse-requires : tie.Need-refuse-requires Inv-loop μ-loop
+refuse-requires c κs = search needs
+
+-- a broken partition
+returns : tie.Need-returns Inv-loop μ-loop
+returns c =
+    let told = c .before in
+    let visited = told .before .before in
+    let turn = visited .before in
+    ap Refused (c .refuse .ensures)
+    ∙ sym (visited-broken (turn .before .loop .inv) (turn .loop-test .taken) (sym (visited .visit .ensures) ∙ told .enum-told .given .1))
+
+add-q : tie.Need-add-q Inv-loop μ-loop
+add-q c = search needs
+
+add-total : tie.Need-add-total Inv-loop μ-loop
+add-total c =
+    let ran = c .before in
+    let visited = ran .before .before in
+    let turn = visited .before in
+    let st = turn .before .before .before .before in
+    let a = st .args in
+    let R = listed (a .shape) (a .list .now) in
+    let u = ran .walked .given .0 .1 .0 in
+    let few = visit-few R (view (a .n) (a .shape .d) (a .table .now)) (a .header .now) (turn .before .loop .q) (few-rules R _ _ (st .pre .0)) (st .pre .0 .few-fields) _ u (sym (visited .visit .ensures) ∙ ran .walked .given .1) in
+    omega (arith, few, turn .before .loop .inv .few-tests, turn .loop-test .taken, st .pre .1, st .pre .0 .few-rules)
+
+enum-known-found : tie.Need-enum-known-found Inv-loop μ-loop
+enum-known-found c = search needs
+
+enum-told-2 : tie.Need-enum-told-2 Inv-loop μ-loop
+enum-told-2 c = search needs
+
+loop-less : tie.Need-loop-less Inv-loop μ-loop
+loop-less c = search needs
+
+-- a miss
+loop-again : tie.Need-loop-again Inv-loop μ-loop
+loop-again c =
+    let ran = c .before .before .before in
+    let visited = ran .before .before in
+    let turn = visited .before in
+    let lent = turn .before .before .before .before .pre .0 in
+    visited-miss (turn .before .loop .inv) (few-rules _ _ _ lent) (lent .few-fields) (turn .loop-test .taken) _ _
+    (sym (visited .visit .ensures) ∙ ran .walked .given .1) (c .enum-told2 .given .1)
+
+loop-less-2 : tie.Need-loop-less-2 Inv-loop μ-loop
+loop-less-2 c = search needs
+
+-- a smaller candidate
+loop-again-2 : tie.Need-loop-again-2 Inv-loop μ-loop
+loop-again-2 c =
+    let hit = c .before .before in
+    let ran = hit .before .before .before in
+    let visited = ran .before .before in
+    let turn = visited .before in
+    let lent = turn .before .before .before .before .pre .0 in
+    visited-sooner (turn .before .loop .inv) (few-rules _ _ _ lent) (lent .few-fields) (turn .loop-test .taken) _ _
+    (sym (visited .visit .ensures) ∙ ran .walked .given .1) _ (hit .found .given .1) (c .if1 .taken)
+
+loop-less-3 : tie.Need-loop-less-3 Inv-loop μ-loop
+loop-less-3 c = search needs
+
+-- a candidate that is not smaller
+loop-again-3 : tie.Need-loop-again-3 Inv-loop μ-loop
+loop-again-3 c =
+    let hit = c .before .before in
+    let ran = hit .before .before .before in
+    let visited = ran .before .before in
+    let turn = visited .before in
+    let lent = turn .before .before .before .before .pre .0 in
+    visited-later (turn .before .loop .inv) (few-rules _ _ _ lent) (lent .few-fields) (turn .loop-test .taken) _ _
+    (sym (visited .visit .ensures) ∙ ran .walked .given .1) _ (hit .found .given .1) (c .if1 .left)
+
+-- a match
+returns-2 : tie.Need-returns-2 Inv-loop μ-loop
+returns-2 c =
+    let done = c .before in
+    sym (visited-match (done .before .loop .inv) (done .loop-test .left) (done .before .before .before .before .pre .0 .rules) (c .if2 .taken))
+
+-- none
+returns-3 : tie.Need-returns-3 Inv-loop μ-loop
+returns-3 c =
+    let done = c .before in
+    sym (visited-nothing (done .before .loop .inv) (done .loop-test .left) (done .before .before .before .before .pre .0 .rules) (c .if2 .left))
+
+pub visit-all-spec : {M : Type 1} → statement M
+visit-all-spec =
+    tie.close
+    (tie.spec
+    Inv-loop
+    μ-loop
+    loop-holds
+    visit-requires
+    enum-known-walked
+    enum-told
+    refuse-requires
+    returns
+    add-q
+    add-total
+    enum-known-found
+    enum-told-2
+    loop-less
+    loop-again
+    loop-less-2
+    loop-again-2
+    loop-less-3
+    loop-again-3
+    returns-2
+    returns-3)

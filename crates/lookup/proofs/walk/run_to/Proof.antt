@@ -1,0 +1,20 @@
+-- `lookup::walk::run_to` meets its contract: it reads where `to_at` says.
+-- Assumes nothing.
+use borrow.Author.Needs.{needs}
+use Rattle.lookup.proofs.walk.run_to.Statement.{statement}
+use Rattle.lookup.proofs.walk.run_to.Tie as tie
+
+to-at-requires : tie.Need-to-at-requires
+to-at-requires c κs = search needs
+
+mul-result : tie.Need-mul-result
+mul-result c = search needs
+
+shared-slice-read-result : tie.Need-shared-slice-read-result
+shared-slice-read-result c = search needs
+
+returns : tie.Need-returns
+returns c = rw (c .before .to-at .ensures)
+
+pub run-to-spec : {M : Type 1} → statement M
+run-to-spec = tie.close (tie.spec to-at-requires mul-result shared-slice-read-result returns)

@@ -1,0 +1,44 @@
+-- What the bound on tests speaks of: the largest power of two within a number, the tests of a visit, a sum, and the list and the
+-- header that reach the bound.
+-- Assumes nothing: these are definitions.
+use Prim.Native.Nat.{ℕ, zero, suc, _+_, _*_, _/_, _^_, _≤_, _<_}
+use mathlib.Core.Bool.{Bool, true, false}
+use mathlib.Core.List.{List}
+use lib.ListN.{replicate}
+use Rattle.ranges.specs.Numbers.{tab}
+use Rattle.lists.specs.Rules.{Rules, listed}
+use Rattle.lookup.specs.declared.walk.Walked.{Walked}
+use Rattle.lookup.specs.declared.walk.Walked.the-variants.{Ran, Broken}
+use Rattle.lookup.specs.declared.lookup.Looked.{Looked}
+use Rattle.lookup.specs.declared.lookup.Looked.the-variants.{Rule, Nothing, Refused}
+
+-- k is the largest whole number with 2^k ≤ m
+-- (of 1 it is 0, of 2 and 3 it is 1, of 1,024 it is 10)
+pub record PowerWithin (m k : ℕ) : Type 0 where
+  pub within : 2 ^ k ≤ m
+  pub largest : m < 2 ^ suc k
+
+-- the tests of a walk
+abbrev pub testsOf : Walked → ℕ
+testsOf (Ran x u) = u
+testsOf Broken = 0
+
+-- g q + g (q + 1) + .., k summands
+unfoldable pub sumFrom : ℕ → ℕ → (ℕ → ℕ) → ℕ
+sumFrom zero q g = 0
+sumFrom (suc k) q g = g q + sumFrom k (suc q) g
+
+-- the answer is a refusal
+abbrev pub refuses : Looked → Bool
+refuses (Rule i t) = false
+refuses (Nothing t) = false
+refuses (Refused x) = true
+
+-- m rules of d fields: rule i is i-i in every field
+-- (of d = 2, m = 2: 0 0 0 0 1 1 1 1)
+abbrev pub ladder : ℕ → ℕ → Rules
+ladder d m = listed record { d = d } (tab (m * d * 2) (λ c. c / (d * 2)))
+
+-- the header of eight zeros, which fits rule 0 alone
+abbrev pub zeros : List ℕ
+zeros = replicate 8 0

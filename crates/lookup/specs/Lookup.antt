@@ -1,0 +1,72 @@
+-- 01, The walk and Refusal numbers: a partition visited, all of them in order, and what a lookup answers.
+-- Assumes nothing: these are definitions.
+use Prim.Native.Nat.{ℕ, zero, suc, _+_, min}
+use mathlib.Core.List.{List, [], _∷_}
+use lib.Dec.{ltb}
+use Rattle.ranges.specs.Numbers.{pick}
+use Rattle.ranges.specs.Refusals.{none, refused, stands, Said, saidOf, BrokenTable}
+use Rattle.ranges.specs.declared.refusal.Refusal.{Refusal}
+use Rattle.lists.specs.Rules.{Rules, fieldsOf, rulesIn}
+use Rattle.sorting.specs.Layout.{View}
+use Rattle.sorting.specs.Opening.{partStands, viewOf, openFault}
+use Rattle.lookup.specs.Walk.{walkFrom}
+use Rattle.lookup.specs.declared.walk.Found.{Found}
+use Rattle.lookup.specs.declared.walk.Found.the-variants.{Hit, Miss}
+use Rattle.lookup.specs.declared.walk.Walked.{Walked}
+use Rattle.lookup.specs.declared.walk.Walked.the-variants.{Ran, Broken}
+use Rattle.lookup.specs.declared.lookup.Looked.{Looked}
+use Rattle.lookup.specs.declared.lookup.Looked.the-variants.{Rule, Nothing, Refused}
+
+-- partition q visited: broken where its start is not before the next or the next is past n; else the walk through its
+-- places, from field 0
+unfoldable pub visitOf : Rules → View → List ℕ → ℕ → Walked
+visitOf R v h q =
+    pick (partStands (rulesIn R) v q)
+    (walkFrom R v h (suc (rulesIn R + fieldsOf R)) (v .start q) (v .start (suc q)) 0 0)
+    Broken
+
+-- the smaller candidate, where n stands for none
+abbrev pub better : ℕ → Found → ℕ
+better best Miss = best
+better best (Hit i) = min best i
+
+-- what follows a visit: a broken partition refuses the whole call
+abbrev pub afterVisit : Walked → (Found → ℕ → Looked) → Looked
+afterVisit (Ran x u) next = next x u
+afterVisit Broken next = Refused (refused BrokenTable)
+
+-- the smallest candidate, or none, with t tests made
+abbrev pub answerOf : Rules → ℕ → ℕ → Looked
+answerOf R best t = pick (ltb best (rulesIn R)) (Rule best t) (Nothing t)
+
+-- the k partitions from q on, with the smallest candidate and the tests of those before
+unfoldable pub lookupFrom : Rules → View → List ℕ → ℕ → ℕ → ℕ → ℕ → Looked
+lookupFrom R v h zero q best t = answerOf R best t
+lookupFrom R v h (suc k) q best t = afterVisit (visitOf R v h q) (λ x u. lookupFrom R v h k (suc q) (better best x) (t + u))
+
+-- all b partitions in order
+abbrev pub searchOf : Rules → View → List ℕ → Looked
+searchOf R v h = lookupFrom R v h (v .b) 0 (rulesIn R) 0
+
+-- the lookup: 1, 2, 3, 5 and 6 for the opening, then all partitions
+unfoldable pub lookupOf : Rules → List ℕ → List ℕ → Looked
+lookupOf R T h = pick (stands (openFault R T)) (searchOf R (viewOf R T) h) (Refused (openFault R T))
+
+-- what the answer says in the paper's words: 1, the rule number and the tests; 0 and the tests where there is no match;
+-- a refusal carries no match
+abbrev pub saysLooked : Looked → Said
+saysLooked (Rule i t) = saidOf none (1 ∷ i ∷ t ∷ [])
+saysLooked (Nothing t) = saidOf none (0 ∷ t ∷ [])
+saysLooked (Refused x) = saidOf x []
+
+-- its match: one rule number, or none
+abbrev pub matchIn : Looked → List ℕ
+matchIn (Rule i t) = i ∷ []
+matchIn (Nothing t) = []
+matchIn (Refused x) = []
+
+-- its count of tests, 0 for a refusal
+abbrev pub testsIn : Looked → ℕ
+testsIn (Rule i t) = t
+testsIn (Nothing t) = t
+testsIn (Refused x) = 0

@@ -1,0 +1,98 @@
+// The lookup of a header in a table.
+use crate::walk::Found;
+use crate::walk::Walked;
+use crate::walk::walk;
+use lists::shape::Shape;
+use lists::shape::rules_in;
+use ranges::refusal::BROKEN_TABLE;
+use ranges::refusal::Refusal;
+use ranges::refusal::refuse;
+use sorting::layout::open_fault;
+use sorting::layout::start_at;
+ghost use mathlib.Core.Path.{_≡_};
+ghost use Prim.Native.Nat.{_<_, _≤_};
+ghost use lib.ListN.{length, getD};
+ghost use Rattle.lists.specs.Rules.{listed};
+ghost use Rattle.sorting.specs.Layout.{startAt, view};
+ghost use Rattle.lookup.specs.Lent.{Ready};
+ghost use Rattle.lookup.specs.Lookup.{visitOf, lookupFrom, lookupOf};
+
+// What a lookup answers: the first match, or none, with the range tests made; or a refusal.
+pub enum Looked {
+    Rule { rule: usize, tests: usize },
+    Nothing { tests: usize },
+    Refused(Refusal),
+}
+
+// Reads the first place of partition q of a table of n rules.
+fn start_of(table: &[u16], n: u16, q: u16) -> u16
+    requires { ⌜ startAt n q < length (now table) ⌝ }
+    ensures { λ r. ⌜ r ≡ getD (now (table .entry)) (startAt n q) 0 ⌝ }
+{
+    table[start_at(n, q)]
+}
+
+// Visits partition q: walks through its places, or says that the table is broken where it has none or ends past the n
+// places.
+fn visit(shape: Shape, n: u16, list: &[u32], table: &[u16], header: &[u32; 8], q: u16) -> Walked
+    requires { ⌜ Ready (listed shape (now list)) n (now table) ⌝ }
+    requires { ⌜ q < n ⌝ }
+    ensures { λ r. ⌜ r ≡ visitOf (listed shape (now (list .entry))) (view n (shape .d) (now (table .entry))) (now (header .entry)) q ⌝ }
+{
+    let s = start_of(table, n, q);
+    let e = start_of(table, n, q + 1);
+    if e <= s {
+        return Walked::Broken;
+    }
+    if n < e {
+        return Walked::Broken;
+    }
+    walk(shape, n, list, table, header, s, e, 0, 0)
+}
+
+// Visits the partitions 0 to b - 1 in order: gives the smallest candidate, or none, with the sum of the tests; or refuses
+// with 6 at the first that is broken.
+fn visit_all(shape: Shape, n: u16, b: u16, list: &[u32], table: &[u16], header: &[u32; 8]) -> Looked
+    requires { ⌜ Ready (listed shape (now list)) n (now table) ⌝ }
+    requires { ⌜ b ≤ n ⌝ }
+    ensures { λ r. ⌜ r ≡ lookupFrom (listed shape (now (list .entry))) (view n (shape .d) (now (table .entry))) (now (header .entry)) b 0 n 0 ⌝ }
+{
+    let mut q: u16 = 0;
+    let mut best = n as usize;
+    let mut total: usize = 0;
+    while q < b {
+        let walked = visit(shape, n, list, table, header, q);
+        let Walked::Ran(found, tests) = walked else {
+            return Looked::Refused(refuse(BROKEN_TABLE));
+        };
+        q += 1;
+        total += tests;
+        let Found::Hit(rule) = found else {
+            continue;
+        };
+        if rule < best {
+            best = rule;
+        }
+    }
+    if best < n as usize {
+        return Looked::Rule {
+            rule: best,
+            tests: total,
+        };
+    }
+    Looked::Nothing { tests: total }
+}
+
+// Looks a header up in a table: gives the smallest candidate of all partitions, or none, with the sum of the tests; or the
+// first of the refusals 1, 2, 3, 5 and 6 that applies.
+pub fn lookup(shape: Shape, list: &[u32], table: &[u16], header: [u32; 8]) -> Looked
+    ensures { λ r. ⌜ r ≡ lookupOf (listed shape (now (list .entry))) (now (table .entry)) header ⌝ }
+{
+    let fault = open_fault(shape, list, table);
+    if fault.number != 0 {
+        return Looked::Refused(fault);
+    }
+    let n = rules_in(shape, list) as u16;
+    let b = table[2];
+    visit_all(shape, n, b, list, table, &header)
+}
