@@ -1,4 +1,15 @@
 -- The laws that proofs of this crate and above cite:
+-- Fields: how two rules stand to each other, as the code finds it.
+-- Stamps: first fit by stamps.
+-- Choosing: the loop that takes one rule after the other.
+-- Ranks: the loops that count, and each rule at its place.
+-- Putting: numbers written into a table from a place on.
+-- Rows: the runs by neighbouring places, a row of fields at a time.
+-- RowByRow: the loops that write the runs, a row of fields at a time.
+-- Laid: the parts of a table, written one after the other, are the whole table.
+-- Building: which of 1 to 5 a list and a table meet, and what is written where they meet none.
+-- Auditing: two runs with the same numbers, and the answer of an audit.
+-- Reporting: the report on a partition, as the code works it out.
 -- Offsets: every part of a table lies within it.
 -- Opening: which refusal an opening meets, and what a table is that opens.
 -- Sound: a list with low ≤ high everywhere.
@@ -13,6 +24,17 @@
 -- FirstFits: first fit is a choice of partitions, and each rule gets the lowest that is free.
 -- Built: the table that the build writes keeps the promise.
 -- Cases: the tables of B1 and B9.
+pub mod Fields
+pub mod Stamps
+pub mod Choosing
+pub mod Ranks
+pub mod Putting
+pub mod Rows
+pub mod RowByRow
+pub mod Laid
+pub mod Building
+pub mod Auditing
+pub mod Reporting
 pub mod Offsets
 pub mod Opening
 pub mod Sound

@@ -17,9 +17,8 @@ use Rattle.ranges.specs.Numbers.{pick, _and_}
 use Rattle.ranges.specs.Refusals.{none, refused, orElse, stands, BadTableLength, BrokenTable}
 use Rattle.ranges.specs.declared.refusal.Refusal.{Refusal}
 use Rattle.ranges.proofs.Numbers.{true-not-false, and-left, and-right}
-use Rattle.lists.specs.Rules.{Rules, fieldsOf, rulesIn}
+use Rattle.lists.specs.Rules.{Rules, fieldsOf, rulesIn, Shaped}
 use Rattle.lists.specs.Faults.{shapeFault}
-use Rattle.lists.proofs.Rules.{Shaped}
 use Rattle.lists.proofs.Faults.{shaped}
 use Rattle.sorting.specs.Layout.{View, view, TableFor, tableLength, startAt}
 use Rattle.sorting.proofs.Offsets.{opening-inside, start-inside}

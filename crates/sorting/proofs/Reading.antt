@@ -3,6 +3,8 @@
 --     read-rules, read-fields, read-parts        n, d, b
 --     read-order, read-start                     the rule at a place; the first place of a partition
 --     read-from, read-to                         the ends of a run
+--     by-place-length, by-place-at               a part that stands place by place, field by field
+--     order-long, starts-long, froms-long        the table up to a part's end
 -- Assumes nothing.
 use Prim.Native.Nat.{ℕ, _+_, _*_, _/_, _%_, _≤_, _<_}
 use mathlib.Core.List.{List, [], _∷_, _++_}
@@ -35,10 +37,10 @@ module _ (xs ys : List ℕ) (n : ℕ) (long : length xs ≡ n) where
 
 -- ---- a part that stands place by place, field by field
 module _ (R : Rules) (g : ℕ → ℕ → ℕ) where
-  by-place-length : length (byPlace R g) ≡ rulesIn R * fieldsOf R
+  pub by-place-length : length (byPlace R g) ≡ rulesIn R * fieldsOf R
   by-place-length = tab-length (λ c. g (c / fieldsOf R) (c % fieldsOf R)) (rulesIn R * fieldsOf R)
 
-  by-place-at : (p f : ℕ) → p < rulesIn R → f < fieldsOf R → getD (byPlace R g) (p * fieldsOf R + f) 0 ≡ g p f
+  pub by-place-at : (p f : ℕ) → p < rulesIn R → f < fieldsOf R → getD (byPlace R g) (p * fieldsOf R + f) 0 ≡ g p f
   by-place-at p f is-p in-row =
       tab-at (λ c. g (c / fieldsOf R) (c % fieldsOf R)) (rulesIn R * fieldsOf R) (p * fieldsOf R + f) (row-inside (fieldsOf R) p (rulesIn R) f is-p in-row)
       ∙ ap (λ q. g q ((p * fieldsOf R + f) % fieldsOf R)) (digits-div p in-row)
@@ -66,15 +68,15 @@ module _ (R : Rules) (run : List ℕ) where
   unfolding tableOf
   table-parts = refl
 
-  order-long : length (toOrder R run) ≡ 3 + rulesIn R
+  pub order-long : length (toOrder R run) ≡ 3 + rulesIn R
   order-long = both-long (toHead R run) (tab (rulesIn R) (ruleAt R run)) 3 refl (rulesIn R) (tab-length (ruleAt R run) (rulesIn R))
 
-  starts-long : length (toStarts R run) ≡ 4 + rulesIn R * 2
+  pub starts-long : length (toStarts R run) ≡ 4 + rulesIn R * 2
   starts-long =
       let long = both-long (toOrder R run) (tab (rulesIn R + 1) (startOf R run)) (3 + rulesIn R) order-long (rulesIn R + 1) (tab-length (startOf R run) (rulesIn R + 1)) in
       omega arith
 
-  froms-long : length (toFroms R run) ≡ 4 + rulesIn R * 2 + rulesIn R * fieldsOf R
+  pub froms-long : length (toFroms R run) ≡ 4 + rulesIn R * 2 + rulesIn R * fieldsOf R
   froms-long =
       both-long (toStarts R run) (byPlace R (runFrom R run)) (4 + rulesIn R * 2) starts-long (rulesIn R * fieldsOf R) (by-place-length R (runFrom R run))
 

@@ -13,9 +13,8 @@ use borrow.Author.Tests.{ltb-false, leb-false, not-true, not-false, eq-eqb, eqb-
 use Rattle.ranges.specs.Numbers.{pick, least}
 use Rattle.ranges.specs.Refusals.{none, refusedAt, stands, LowAboveHigh}
 use Rattle.ranges.proofs.Numbers.{true-not-false, all-at, least-under}
-use Rattle.lists.specs.Rules.{Rules, fieldsOf, rulesIn, lowOf, endsAt, isVoid}
+use Rattle.lists.specs.Rules.{Rules, fieldsOf, rulesIn, lowOf, endsAt, isVoid, Shaped}
 use Rattle.lists.specs.Faults.{shapeFault, soundRule, badRule, endsFault, listFault}
-use Rattle.lists.proofs.Rules.{Shaped}
 use Rattle.lists.proofs.Faults.{shaped}
 
 -- low ≤ high in each field of each rule

@@ -39,3 +39,8 @@ pub record Choice (R : Rules) (run : List ℕ) (b : ℕ) : Type 0 where
   pub below : (i : ℕ) → i < rulesIn R → partOf run i < b
   pub used : (q : ℕ) → q < b → (i : ℕ) × (i < rulesIn R) × (partOf run i ≡ q)
   pub apart : (i j : ℕ) → i < j → j < rulesIn R → partOf run i ≡ partOf run j → clash R i j ≡ false
+
+-- what the choice by first fit is: each rule's number in the run, and how many partitions that opens
+pub record Chosen (R : Rules) (run : List ℕ) (b : ℕ) : Type 0 where
+  pub numbers : run ≡ firstFit R (rulesIn R)
+  pub opened : b ≡ parts (firstFit R (rulesIn R)) (rulesIn R)

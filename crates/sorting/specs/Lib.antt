@@ -4,3 +4,8 @@ pub mod Layout
 pub mod Table
 pub mod Opening
 pub mod Promise
+pub mod Asked
+pub mod Marks
+pub mod Laying
+pub mod Build
+pub mod Report

@@ -12,6 +12,13 @@ ghost use Rattle.lists.specs.Rules.{listed};
 ghost use Rattle.sorting.specs.Layout.{tableLength, orderAt, startAt, fromAt, toAt, view, TableFor};
 ghost use Rattle.sorting.specs.Opening.{opening, openFault};
 
+// Where n, d and b stand.
+pub const RULES_AT: usize = 0;
+
+pub const FIELDS_AT: usize = 1;
+
+pub const PARTS_AT: usize = 2;
+
 // Gives the length of a table of n rules of d fields.
 pub fn table_length(n: u16, d: u16) -> usize
     ensures { λ r. ⌜ r ≡ tableLength n d ⌝ }
@@ -53,13 +60,13 @@ fn opens(n: u16, d: u16, table: &[u16]) -> bool
     requires { ⌜ TableFor n d (now table) ⌝ }
     ensures { λ r. ⌜ r ≡ opening n d (view n d (now (table .entry))) ⌝ }
 {
-    if table[0] != n {
+    if table[RULES_AT] != n {
         return false;
     }
-    if table[1] != d {
+    if table[FIELDS_AT] != d {
         return false;
     }
-    let b = table[2];
+    let b = table[PARTS_AT];
     if n < b {
         return false;
     }

@@ -3,5 +3,25 @@
 // Renders 01's sections 'Order and partitions', 'The working table' and, of 'Refusal numbers' and 'Other answers',
 // what is said of a build, an audit and a report. The crates of the lookup and the programs may cite it; it cites
 // `ranges` and `lists`. What a lookup may rely on is `specs/Promise.antt` alone.
+//
+// The table. n, d and b; the rules in the order of their places; the starts of the partitions; for every place and
+// field, where its run begins and where it ends. `layout.rt` alone knows where a part stands.
+//
+// First fit by marks (`choose.rt`). A rule is held against every rule before it, once; where the two clash, the other
+// rule's partition gets this rule's stamp, and a partition that has it is not looked at again. The rule goes to the
+// lowest partition without its stamp. Stamps hold the rule's number plus one, so none is ever cleared.
+//
+// Ranks (`lay_out.rt`). The place of a rule is how many rules stand before it: those of lower partitions, and those of
+// its own that come before it. Only rules of one partition are compared. Each rule is written at its place.
+//
+// Runs by neighbours (`lay_out.rt`). What the rules at places p - 1 and p have in common, counted in leading fields and
+// none in different partitions, says for every field at once whether p's run begins with p. So one pass from the first
+// place gives all run-froms, each row of fields by the row before, and one pass from the last place all run-tos.
+pub mod audit;
+pub mod build;
+mod choose;
+mod lay_out;
 pub mod layout;
-pub mod order;
+mod order;
+pub mod report;
+mod written;

@@ -1,0 +1,81 @@
+-- Laws of the audit (`specs/Build.antt`): two runs with the same numbers, and the answer of an audit.
+--     same-not, same-all                       two runs with the same numbers, number by number
+--     same-equal                               they are the same run
+--     table-few, table-room, table-asked       a table of the right length has at most 18,436 numbers
+--     table-back, table-count                  what was written into the room for them
+--     audit-yes, audit-no                      the answers
+-- Assumes nothing.
+use Prim.Native.Nat.{ℕ, _*_, _≤_, _<_}
+use mathlib.Core.Bool.{Bool, true, false}
+use mathlib.Core.List.{List, _++_}
+use mathlib.Core.Path.{_≡_, refl, sym, ap, _∙_, subst}
+use native.Mathlib.Omega.{arith}
+use native.Mathlib.Nat.{mul-le-mul}
+use lib.ListN.{length, getD, take, replicate, length-append, length-replicate}
+use lib.Seq.{take-at, length-take-le, ext-getD}
+use lib.Dec.{eqb}
+use borrow.Author.Tests.{eq-eqb, ne-eqb, eqb-true}
+use Rattle.ranges.specs.Numbers.{pick, all}
+use Rattle.ranges.specs.declared.refusal.Refusal.{Refusal}
+use Rattle.ranges.proofs.Numbers.{all-yes, all-at, all-no}
+use Rattle.lists.specs.Rules.{Rules, fieldsOf, rulesIn, Shaped}
+use Rattle.sorting.specs.Layout.{TableFor, tableLength}
+use Rattle.sorting.specs.Table.{builtTable}
+use Rattle.sorting.specs.Asked.{Buildable}
+use Rattle.sorting.specs.Build.{buildFault, sameNumbers, auditOf}
+use Rattle.sorting.specs.declared.audit.Verdict.{Verdict}
+use Rattle.sorting.specs.declared.audit.Verdict.the-variants.{Yes, No, Refused}
+use Rattle.sorting.proofs.Sound.{list-shaped}
+use Rattle.sorting.proofs.Reading.{table-sized}
+
+-- ---- two runs with the same numbers
+module _ (a b : List ℕ) where
+  pub same-not : (k : ℕ) → k < length a → (getD a k 0 ≡ getD b k 0 → ⊥) → sameNumbers a b ≡ false
+  same-not k lt ne = all-no (λ k. eqb (getD a k 0) (getD b k 0)) (length a) k lt (ne-eqb (getD a k 0) (getD b k 0) ne)
+
+  pub same-all : (k : ℕ) → length a ≤ k → ((j : ℕ) → j < k → getD a j 0 ≡ getD b j 0) → sameNumbers a b ≡ true
+  same-all k over same =
+      all-yes (λ k. eqb (getD a k 0) (getD b k 0)) (length a) (λ j l. eq-eqb (getD a j 0) (getD b j 0) (same j (omega arith)))
+
+  pub same-equal : length a ≡ length b → sameNumbers a b ≡ true → a ≡ b
+  same-equal long same =
+      ext-getD 0 a b long (λ k l. eqb-true (getD a k 0) (getD b k 0) (all-at (λ k. eqb (getD a k 0) (getD b k 0)) (length a) same k l))
+
+-- ---- room for a table
+module _ {R : Rules} {T : List ℕ} (h : Buildable R T) where
+  pub table-few : length T ≤ 18436
+  unfolding tableLength
+  table-few =
+      let s = list-shaped R (h .no-fault) in
+      let cells : rulesIn R * fieldsOf R ≤ 8192 = mul-le-mul (s .few-rules) (s .few-fields) in
+      omega (arith, h .sized .long, s .few-rules)
+
+  pub table-room : length T ≡ length (take (length T) (replicate {A = ℕ} 18436 0))
+  table-room =
+      let zeros : List ℕ = replicate 18436 0 in
+      sym (length-take-le (length T) zeros (omega (arith, table-few, length-replicate {A = ℕ} 18436 0)))
+
+  -- a part of it as long as the table may be written
+  pub table-asked : Buildable R (take (length T) (replicate {A = ℕ} 18436 0))
+  table-asked = record { no-fault = h .no-fault; sized = record { long = sym table-room ∙ h .sized .long } }
+
+  module _ {built : List ℕ} (is : built ≡ builtTable R) (rest : List ℕ) where
+    built-long : length built ≡ length T
+    built-long = ap length is ∙ table-sized R _ .long ∙ sym (h .sized .long)
+
+    pub table-back : length T ≤ length (built ++ rest)
+    table-back = rw length-append (omega (arith, built-long))
+
+    pub table-count : length T ≡ length (take (length T) (built ++ rest))
+    table-count = sym (length-take-le (length T) (built ++ rest) table-back)
+
+    pub table-front : take (length T) (built ++ rest) ≡ builtTable R
+    table-front = take-at built rest (length T) built-long ∙ is
+
+-- ---- the answers
+module _ (R : Rules) (T : List ℕ) (x : Refusal) (is-x : x ≡ buildFault R T) (z : x .number ≡ 0) {S : List ℕ} (is : S ≡ builtTable R) where
+  pub audit-yes : sameNumbers T S ≡ true → Yes ≡ auditOf R T
+  audit-yes same = rw (← is-x, eq-eqb (x .number) 0 z, ← is, same)
+
+  pub audit-no : sameNumbers T S ≡ false → No ≡ auditOf R T
+  audit-no other = rw (← is-x, eq-eqb (x .number) 0 z, ← is, other)

@@ -1,0 +1,132 @@
+-- The loop of `choose`: once the first i rules are taken, the run's first i numbers are first fit's, and no stamp is later than
+-- that of the rules taken. The next rule gets the lowest partition without its stamp (`Stamps.antt`).
+--     parts-turn, parts-whole             how many partitions the first i numbers of a run open
+--     fit-low                             first fit gives no rule a number above its own
+--     Choosing, choosing-none, choosing-marks, choosing-more, choosing-end
+-- Assumes nothing.
+use Prim.Native.Nat.{ℕ, zero, suc, max, _+_, _≤_, _<_}
+use mathlib.Core.Bool.{Bool, true, false, not}
+use mathlib.Core.List.{List, [], _∷_, _++_}
+use mathlib.Core.Path.{_≡_, refl, sym, ap, _∙_, subst}
+use mathlib.Core.Logic.{⊎-elim}
+use native.Mathlib.Omega.{arith}
+use native.Mathlib.Nat.{eq-or-lt-of-le, le-of-suc-le-suc}
+use native.Mathlib.Numerals.{add-one}
+use borrow.Author.Tests.{ne-eqb, ltb-true, ltb-false}
+use lib.Dec.{ltb, eqb}
+use lib.ListN.{length, getD, set, take, replicate, length-set, length-append, length-replicate, getD-replicate, List·getD-append, List·getD-eq-default}
+use lib.Seq.{getD-at, take-all, take-suc-set, length-take-le}
+use Rattle.ranges.specs.Numbers.{_and_, all, least}
+use Rattle.ranges.proofs.Numbers.{true-not-false, all-yes, least-under, least-le}
+use Rattle.lists.specs.Rules.{Rules, rulesIn, Shaped}
+use Rattle.sorting.specs.Order.{clash}
+use Rattle.sorting.specs.FirstFit.{partOf, free, fitOf, firstFit, parts, Chosen}
+use Rattle.sorting.specs.Asked.{RunFor}
+use Rattle.sorting.specs.Marks.{stamped, unstamped, Marking}
+use Rattle.sorting.proofs.Parts.{parts-more}
+use Rattle.sorting.proofs.FirstFits.{fit-least, first-fit-more, first-fit-at, first-fit-same}
+use Rattle.sorting.proofs.Stamps.{stamped-fit, stamped-long, stamped-fresh}
+
+-- ---- how many partitions a run opens
+pub parts-turn : (run : List ℕ) (b i : ℕ) → b ≡ parts run i → max b (partOf run i + 1) ≡ parts run (i + 1)
+parts-turn run b i is = rw (is, parts-more run i, add-one (partOf run i))
+
+pub parts-whole : (run : List ℕ) (b i : ℕ) → b ≡ parts run i → i ≤ length run → length run ≤ i → b ≡ parts run (length run)
+parts-whole run b i is le ge = let all-of : i ≡ length run = omega arith in is ∙ ap (parts run) all-of
+
+-- ---- first fit
+module _ (R : Rules) where
+  -- the partition of rule i's own number has no member before it
+  own-free : (run : List ℕ) (i : ℕ) → ((j : ℕ) → j < i → partOf run j ≤ j) → free R run i i ≡ true
+  own-free run i low =
+      all-yes (λ j. not (eqb (partOf run j) i and clash R j i)) i
+      (λ j l. let other : partOf run j ≡ i → ⊥ = λ e. omega (arith, low j l) in rw (ne-eqb (partOf run j) i other))
+
+  pub fit-low : (k j : ℕ) → j < k → partOf (firstFit R k) j ≤ j
+  fit-low zero j lt = absurd (omega arith)
+  fit-low (suc k) j lt =
+      ⊎-elim
+      (λ e. rw (first-fit-at R (suc k) j lt) (subst (λ m. fitOf R (firstFit R m) m ≤ m) (sym e) (fit-least R (firstFit R k) k k (own-free (firstFit R k) k (fit-low k)))))
+      (λ l. rw (first-fit-same R k (suc k) j l (omega arith)) (fit-low k j l))
+      (eq-or-lt-of-le (le-of-suc-le-suc lt))
+
+-- ---- the loop
+pub record Choosing (R : Rules) (run stamps : List ℕ) (i : ℕ) : Type 0 where
+  pub so-far : i ≤ rulesIn R
+  pub one-each : length run ≡ rulesIn R
+  pub chosen : take i run ≡ firstFit R i
+  pub long : length stamps ≡ 1024
+  pub fresh : (q : ℕ) → getD stamps q 0 ≤ i
+
+-- no stamp stands yet
+unstamped-yet : (m q : ℕ) → getD (replicate m 0) q 0 ≤ 0
+unstamped-yet m q = go (ltb q m) refl
+  where
+    go : (t : Bool) → ltb q m ≡ t → getD (replicate m 0) q 0 ≤ 0
+    go true e = rw (getD-replicate {A = ℕ} m q 0 0 (ltb-true q m e)) (omega arith)
+    go false e =
+        let zeros : List ℕ = replicate m 0 in
+        let past : length zeros ≤ q = omega (arith, length-replicate {A = ℕ} m 0, ltb-false q m e) in
+        rw (List·getD-eq-default zeros 0 past) (omega arith)
+
+module _ (R : Rules) (run : List ℕ) (asked : RunFor R run) where
+  pub choosing-none : Choosing R run (replicate 1024 0) 0
+  unfolding firstFit
+  choosing-none =
+      record {
+        so-far = omega arith;
+        one-each = asked .one-each;
+        chosen = refl;
+        long = length-replicate {A = ℕ} 1024 0;
+        fresh = unstamped-yet 1024;
+      }
+
+module _ {R : Rules} {run stamps : List ℕ} {i : ℕ} (s : Shaped R) (h : Choosing R run stamps i) (lt : i < rulesIn R) where
+  -- rule i may be held against the rules before it
+  pub choosing-marks : Marking R (take i run) i stamps
+  choosing-marks =
+      record {
+        shape-stands = s;
+        rule = lt;
+        taken = length-take-le i run (omega (arith, h .one-each));
+        numbers = rw (h .chosen) (fit-low R i);
+        long = h .long;
+        fresh = h .fresh;
+      }
+
+  pub choosing-more : {v : ℕ} {after : List ℕ} → after ≡ stamped R (take i run) i stamps → v ≡ unstamped i after → Choosing R (set run i v) after (i + 1)
+  choosing-more {v} {after} is-after is-v =
+      record {
+        so-far = omega arith;
+        one-each = rw length-set (h .one-each);
+        chosen = next;
+        long = rw is-after (stamped-long R (take i run) i stamps (h .fresh));
+        fresh = rw is-after (stamped-fresh R (take i run) i stamps (h .fresh));
+      }
+    where
+      few : i < 1024
+      few = omega (arith, s .few-rules)
+
+      inside : i < length run
+      inside = omega (arith, h .one-each)
+
+      fits : v ≡ fitOf R (firstFit R i) i
+      fits = is-v ∙ ap (unstamped i) is-after ∙ stamped-fit R (take i run) i stamps (h .fresh) few ∙ ap (λ l. fitOf R l i) (h .chosen)
+
+      next : take (i + 1) (set run i v) ≡ firstFit R (i + 1)
+      next = rw (first-fit-more R i, add-one i, take-suc-set run i v inside, h .chosen, fits)
+
+module _ {R : Rules} {run stamps : List ℕ} {i : ℕ} (h : Choosing R run stamps i) (over : rulesIn R ≤ i) where
+  -- every rule is taken
+  whole : run ≡ firstFit R (rulesIn R)
+  whole =
+      let is : i ≡ rulesIn R = omega (arith, h .so-far) in
+      sym (take-all i run (omega (arith, h .one-each))) ∙ h .chosen ∙ ap (firstFit R) is
+
+  pub choosing-numbers : Shaped R → (j : ℕ) → j < length run → partOf run j < 1024
+  choosing-numbers s j l =
+      let low : partOf run j ≤ j = rw whole (fit-low R (rulesIn R) j (omega (arith, h .one-each))) in
+      omega (arith, s .few-rules, h .one-each)
+
+  pub choosing-end : {b : ℕ} → b ≡ parts run (length run) → Chosen R run b
+  choosing-end {b} is = record { numbers = whole; opened = is ∙ rw (h .one-each, whole) }

@@ -1,0 +1,74 @@
+-- `sorting::audit::same_numbers` meets its contract. At the loop's head the first k numbers are the same; the measure is what is left of them.
+-- Assumes nothing.
+use native.Mathlib.Omega.{arith}
+use borrow.Author.Needs.{needs}
+use Prim.Native.Nat.{ℕ, _≤_, _<_, _-_}
+use mathlib.Core.Path.{_≡_, sym}
+use borrow.Author.Count.{below-none, below-more}
+use lib.ListN.{length, getD}
+use Rattle.sorting.proofs.Auditing.{same-not, same-all}
+use Rattle.sorting.proofs.audit.same_numbers.Statement.{statement}
+use Rattle.sorting.proofs.audit.same_numbers.Tie as tie
+
+abbrev Inv-loop : tie.InvT-loop
+Inv-loop a b k₀ k = (k ≤ length a) × ((j : ℕ) → j < k → getD a j 0 ≡ getD b j 0)
+
+abbrev μ-loop : tie.MeasureT-loop
+μ-loop a b k₀ k = length a - k
+
+loop-holds : tie.Need-loop-holds Inv-loop μ-loop
+loop-holds c = (search needs, below-none _)
+
+mul-if1 : tie.Need-mul-if1 Inv-loop μ-loop
+mul-if1 c = search needs
+
+shared-slice-read-if1 : tie.Need-shared-slice-read-if1 Inv-loop μ-loop
+shared-slice-read-if1 c = search needs
+
+mul-if1-2 : tie.Need-mul-if1-2 Inv-loop μ-loop
+mul-if1-2 c = search needs
+
+shared-slice-read-if1-2 : tie.Need-shared-slice-read-if1-2 Inv-loop μ-loop
+shared-slice-read-if1-2 c = search needs
+
+-- another number
+returns : tie.Need-returns Inv-loop μ-loop
+returns c =
+    let at-test = c .before .before .before in
+    let a = at-test .before .before .args in
+    sym (same-not (a .a .now) (a .b .now) _ (at-test .loop-test .taken) (c .if1 .taken))
+
+add-k : tie.Need-add-k Inv-loop μ-loop
+add-k c = search needs
+
+loop-less : tie.Need-loop-less Inv-loop μ-loop
+loop-less c = omega arith
+
+loop-again : tie.Need-loop-again Inv-loop μ-loop
+loop-again c =
+    let at-test = c .before .before .before in
+    (search needs, below-more _ _ (at-test .before .loop .inv .1) (c .if1 .left))
+
+-- all the same
+returns-2 : tie.Need-returns-2 Inv-loop μ-loop
+returns-2 c =
+    let loop = c .before in
+    let a = loop .before .args in
+    sym (same-all (a .a .now) (a .b .now) _ (c .loop-test .left) (loop .loop .inv .1))
+
+pub same-numbers-spec : {M : Type 1} → statement M
+same-numbers-spec =
+    tie.close
+    (tie.spec
+    Inv-loop
+    μ-loop
+    loop-holds
+    mul-if1
+    shared-slice-read-if1
+    mul-if1-2
+    shared-slice-read-if1-2
+    returns
+    add-k
+    loop-less
+    loop-again
+    returns-2)

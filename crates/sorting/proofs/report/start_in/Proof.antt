@@ -1,0 +1,24 @@
+-- `sorting::report::start_in` meets its contract: what stands where `start_at` says.
+-- Assumes nothing.
+use borrow.Author.Needs.{needs}
+use mathlib.Core.Path.{ap}
+use lib.ListN.{getD}
+use Rattle.sorting.proofs.report.start_in.Statement.{statement}
+use Rattle.sorting.proofs.report.start_in.Tie as tie
+
+start-at-requires : tie.Need-start-at-requires
+start-at-requires c κs = search needs
+
+mul-result : tie.Need-mul-result
+mul-result c = search needs
+
+shared-slice-read-result : tie.Need-shared-slice-read-result
+shared-slice-read-result c = search needs
+
+returns : tie.Need-returns
+returns c =
+    let at = c .before in
+    ap (λ k. getD (at .before .before .args .table .now) k 0) (at .start-at .ensures)
+
+pub start-in-spec : {M : Type 1} → statement M
+start-in-spec = tie.close (tie.spec start-at-requires mul-result shared-slice-read-result returns)

@@ -1,0 +1,59 @@
+-- 01, Other answers and Refusal numbers: what a build answers and leaves in the table, and what an audit answers.
+-- Both refuse by 1, 2, 3, 4, 5 in this order. A refusal leaves the table as lent.
+-- Assumes nothing: these are definitions.
+use Prim.Native.Nat.{ℕ}
+use mathlib.Core.Bool.{Bool}
+use mathlib.Core.List.{List, [], _∷_}
+use mathlib.Core.Path.{_≡_}
+use lib.ListN.{length, getD}
+use lib.Dec.{eqb}
+use Rattle.ranges.specs.Numbers.{pick, all}
+use Rattle.ranges.specs.Refusals.{none, orElse, stands, countUnless, Said, saidOf}
+use Rattle.ranges.specs.declared.refusal.Refusal.{Refusal}
+use Rattle.ranges.specs.declared.refusal.Count.{Count}
+use Rattle.lists.specs.Rules.{Rules, fieldsOf, rulesIn}
+use Rattle.lists.specs.Faults.{listFault}
+use Rattle.sorting.specs.FirstFit.{firstFit, parts}
+use Rattle.sorting.specs.Layout.{TableFor}
+use Rattle.sorting.specs.Opening.{tableFault}
+use Rattle.sorting.specs.Table.{builtTable}
+use Rattle.sorting.specs.declared.audit.Verdict.{Verdict}
+use Rattle.sorting.specs.declared.audit.Verdict.the-variants.{Yes, No, Refused}
+
+-- 1, 2, 3, 4, 5 in this order
+unfoldable pub buildFault : Rules → List ℕ → Refusal
+buildFault R T = orElse (listFault R) (tableFault R T)
+
+-- b, the number of partitions that first fit opens
+-- (3 of the bench list)
+abbrev pub builtParts : Rules → ℕ
+builtParts R = parts (firstFit R (rulesIn R)) (rulesIn R)
+
+-- ---- build
+-- b, unless something is refused
+abbrev pub buildOf : Rules → List ℕ → Count
+buildOf R T = countUnless (buildFault R T) (builtParts R)
+
+-- the table afterwards: every number written, or as lent
+abbrev pub tableAfter : Rules → List ℕ → List ℕ
+tableAfter R T = pick (stands (buildFault R T)) (builtTable R) T
+
+-- what a build answers and leaves
+pub record Built (R : Rules) (T after : List ℕ) (answer : Count) : Type 0 where
+  pub answers : answer ≡ buildOf R T
+  pub leaves : after ≡ tableAfter R T
+
+-- ---- audit
+-- every number of T is that of S
+abbrev pub sameNumbers : List ℕ → List ℕ → Bool
+sameNumbers T S = all (length T) (λ k. eqb (getD T k 0) (getD S k 0))
+
+-- yes where every number of the table is what the build would write, unless something is refused
+abbrev pub auditOf : Rules → List ℕ → Verdict
+auditOf R T = pick (stands (buildFault R T)) (pick (sameNumbers T (builtTable R)) Yes No) (Refused (buildFault R T))
+
+-- what the answer says in the paper's words: 1 for yes, 0 for no
+abbrev pub saysVerdict : Verdict → Said
+saysVerdict Yes = saidOf none (1 ∷ [])
+saysVerdict No = saidOf none (0 ∷ [])
+saysVerdict (Refused x) = saidOf x []

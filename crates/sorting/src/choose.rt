@@ -1,0 +1,110 @@
+// The choice of partitions: first fit, by marks.
+use crate::order::Standing;
+use crate::order::compare_rules;
+use lists::shape::Shape;
+ghost use mathlib.Core.Path.{_≡_};
+ghost use Prim.Native.Nat.{ℕ, max, _<_};
+ghost use lib.ListN.{length};
+ghost use Rattle.lists.specs.Rules.{listed};
+ghost use Rattle.sorting.specs.Order.{clash};
+ghost use Rattle.sorting.specs.FirstFit.{parts, partOf, Chosen};
+ghost use Rattle.sorting.specs.Asked.{TwoRules, RunFor};
+ghost use Rattle.sorting.specs.Marks.{markOf, stamped, unstamped, Marking};
+
+// Says whether rules i and j clash.
+fn clashes(shape: Shape, list: &[u32], i: u16, j: u16) -> bool
+    requires { ⌜ TwoRules (listed shape (now list)) i j ⌝ }
+    ensures { λ r. ⌜ r ≡ clash (listed shape (now (list .entry))) i j ⌝ }
+{
+    let s = compare_rules(shape, list, i, j);
+    match s {
+        Standing::Alike => true,
+        Standing::Before => false,
+        Standing::After => false,
+        Standing::Clash => true,
+    }
+}
+
+// Gives the stamp of rule j's partition, which was old, once rule i is held against rule j. Where the partition is
+// taken already, the two rules are not compared.
+fn mark_of(shape: Shape, list: &[u32], i: u16, j: u16, old: u16) -> u16
+    requires { ⌜ TwoRules (listed shape (now list)) j i ⌝ }
+    ensures { λ r. ⌜ r ≡ markOf (listed shape (now (list .entry))) i j old ⌝ }
+{
+    if old == i + 1 {
+        return old;
+    }
+    if clashes(shape, list, j, i) {
+        return i + 1;
+    }
+    old
+}
+
+// Stamps with i + 1 each partition in which rule i clashes with a member among the rules before it, whose partition
+// numbers are run; the other stamps stay.
+fn mark(shape: Shape, list: &[u32], run: &[u16], i: u16, stamps: &mut [u16; 1024])
+    requires { ⌜ Marking (listed shape (now list)) (now run) i (now stamps) ⌝ }
+    ensures { λ _. ⌜ now (stamps .exit) ≡ stamped (listed shape (now (list .entry))) (now (run .entry)) i (now (stamps .entry)) ⌝ }
+{
+    let mut j: u16 = 0;
+    while j < i {
+        let q = run[j as usize] as usize;
+        stamps[q] = mark_of(shape, list, i, j, stamps[q]);
+        j += 1;
+    }
+}
+
+// Gives the lowest of the partitions 0 to i that does not have rule i's stamp, and i + 1 where there is none.
+fn first_free(i: u16, stamps: &[u16; 1024]) -> u16
+    requires { ⌜ i < 1024 ⌝ }
+    ensures { λ r. ⌜ r ≡ unstamped i (now (stamps .entry)) ⌝ }
+{
+    let mut q: u16 = 0;
+    while q <= i {
+        if stamps[q as usize] != i + 1 {
+            return q;
+        }
+        q += 1;
+    }
+    q
+}
+
+// Gives the larger of two numbers.
+fn larger(a: u16, b: u16) -> u16
+    ensures { λ r. ⌜ r ≡ max a b ⌝ }
+{
+    if a < b {
+        return b;
+    }
+    a
+}
+
+// Counts how many partitions a run of partition numbers opens: one more than the largest.
+fn parts_in(run: &[u16]) -> u16
+    requires { ⌜ ((i : ℕ) → i < length (now run) → partOf (now run) i < 1024) ⌝ }
+    ensures { λ r. ⌜ r ≡ parts (now (run .entry)) (length (now (run .entry))) ⌝ }
+{
+    let mut b: u16 = 0;
+    let mut i = 0;
+    while i < run.len() {
+        b = larger(b, run[i] + 1);
+        i += 1;
+    }
+    b
+}
+
+// Writes the first-fit partition number of each rule into run and returns how many partitions that opens.
+pub fn choose(shape: Shape, list: &[u32], run: &mut [u16]) -> u16
+    requires { ⌜ RunFor (listed shape (now list)) (now run) ⌝ }
+    ensures { λ r. ⌜ Chosen (listed shape (now (list .entry))) (now (run .exit)) r ⌝ }
+{
+    let n = run.len() as u16;
+    let mut stamps = [0u16; 1024];
+    let mut i: u16 = 0;
+    while i < n {
+        mark(shape, list, &run[..i as usize], i, &mut stamps);
+        run[i as usize] = first_free(i, &stamps);
+        i += 1;
+    }
+    parts_in(run)
+}
