@@ -10,30 +10,42 @@ use lib.Dec.{eqb}
 use Rattle.ranges.specs.Numbers.{pick, _and_}
 use Rattle.text.specs.Cells.{fed}
 use Rattle.text.specs.Rows.{onto}
-use Rattle.gateway.specs.Files.{linesOf, Held, held, settled, step, endOf, finish, overLines}
+use Rattle.gateway.specs.Files.{linesOf, Held, held, plain, step, settled, endOf, finish, overLines}
 
-module _ {X : Type 0} (byte : X → ℕ → X) (close : X → X) (begun : X → Bool) where
-  -- the four ways of a byte
-  pub step-ends : (s : Held X) (b : ℕ) → s .cr ≡ true → b ≡ 10 → step byte close s b ≡ held false (close (s .at))
-  unfolding step
-  step-ends s b cr is = rw (cr, eq-eqb b 10 is)
+-- the ways of a byte
+module _ {X : Type 0} (byte : X → ℕ → X) where
+  pub plain-cr : (x : X) (b : ℕ) → b ≡ 13 → plain byte x b ≡ held true x
+  plain-cr x b is = rw (eq-eqb b 13 is)
 
-  pub step-cr : (s : Held X) (b : ℕ) → b ≡ 13 → step byte close s b ≡ held true (settled byte s)
-  unfolding step
-  step-cr s b is = rw is (go (s .cr))
-    where
-      go : (t : Bool) → pick (t and false) (held false (close (s .at))) (held true (settled byte s)) ≡ held true (settled byte s)
-      go true = refl
-      go false = refl
+  pub plain-byte : (x : X) (b : ℕ) → (b ≡ 13 → ⊥) → plain byte x b ≡ held false (byte x b)
+  plain-byte x b other = rw (ne-eqb b 13 other)
 
-  pub step-other : (s : Held X) (b : ℕ) → s .cr and eqb b 10 ≡ false → (b ≡ 13 → ⊥) → step byte close s b ≡ held false (byte (settled byte s) b)
+  pub step-plain : (close : X → X) (s : Held X) (b : ℕ) → s .cr ≡ false → step byte close s b ≡ plain byte (s .at) b
   unfolding step
-  step-other s b within other = rw (within, ne-eqb b 13 other)
+  step-plain close s b none = rw none
 
-  -- after a CR that a byte other than LF follows, all goes on as after a byte of the line
-  pub lone-cr : (x : X) (c : ℕ) → eqb c 10 ≡ false → step byte close (held true x) c ≡ step byte close (held false (byte x 13)) c
+  pub step-ends : (close : X → X) (s : Held X) (b : ℕ) → s .cr ≡ true → b ≡ 10 → step byte close s b ≡ held false (close (s .at))
   unfolding step
-  lone-cr x c e = rw e
+  step-ends close s b waits is = rw (waits, eq-eqb b 10 is)
+
+  pub step-lone : (close : X → X) (s : Held X) (b : ℕ) → s .cr ≡ true → (b ≡ 10 → ⊥) → step byte close s b ≡ plain byte (byte (s .at) 13) b
+  unfolding step
+  step-lone close s b waits other = rw (waits, ne-eqb b 10 other)
+
+  -- the file's end
+  pub end-none : (close : X → X) (begun : X → Bool) (x : X) → begun x ≡ false → endOf close begun x ≡ x
+  end-none close begun x none = rw none
+
+  pub end-some : (close : X → X) (begun : X → Bool) (x : X) → begun x ≡ true → endOf close begun x ≡ close x
+  end-some close begun x some = rw some
+
+  pub finish-plain : (close : X → X) (begun : X → Bool) (s : Held X) → s .cr ≡ false → finish byte close begun s ≡ endOf close begun (s .at)
+  unfolding finish
+  finish-plain close begun s none = rw none
+
+  pub finish-lone : (close : X → X) (begun : X → Bool) (s : Held X) → s .cr ≡ true → finish byte close begun s ≡ endOf close begun (byte (s .at) 13)
+  unfolding finish
+  finish-lone close begun s waits = rw waits
 
 module _ {X : Type 0} (byte : X → ℕ → X) (close : X → X) (begun : X → Bool)
     (closed : (x : X) → endOf close begun (close x) ≡ close x) (begins : (x : X) (b : ℕ) → endOf close begun (byte x b) ≡ close (byte x b)) where
@@ -47,8 +59,8 @@ module _ {X : Type 0} (byte : X → ℕ → X) (close : X → X) (begun : X → 
 
   -- one byte alone
   one : (b : ℕ) → Claim (b ∷ [])
-  unfolding finish step
-  one b x = go (eqb b 13) refl
+  unfolding finish
+  one b x = rw (step-plain byte close (held false x) b refl) (go (eqb b 13) refl)
     where
       go : (t : Bool) → eqb b 13 ≡ t
           → endOf close begun (settled byte (pick t (held true x) (held false (byte x b)))) ≡ endOf close begun (close (byte x b))
@@ -57,18 +69,16 @@ module _ {X : Type 0} (byte : X → ℕ → X) (close : X → X) (begun : X → 
 
   -- two bytes and what follows
   two : (b c : ℕ) (bs : List ℕ) → Claim bs → Claim (c ∷ bs) → Claim (b ∷ c ∷ bs)
-  two b c bs after next x = go (eqb b 13) (eqb c 10) refl refl
+  two b c bs after next x = rw (step-plain byte close (held false x) b refl) (go (eqb b 13) (eqb c 10) refl refl)
     where
       go : (s t : Bool) → eqb b 13 ≡ s → eqb c 10 ≡ t
-          → finish byte close begun (fed (step byte close) (step byte close (step byte close (held false x) b) c) bs)
+          → finish byte close begun (fed (step byte close) (step byte close (pick s (held true x) (held false (byte x b))) c) bs)
           ≡ overLines byte close begun x (pick (s and t) ([] ∷ linesOf bs) (onto b (linesOf (c ∷ bs))))
-      go true true p q =
-          rw (step-cr byte close begun (held false x) b (eqb-true b 13 p), step-ends byte close begun (held true x) c refl (eqb-true c 10 q)) (after (close x))
+      go true true p q = rw (step-ends byte close (held true x) c refl (eqb-true c 10 q)) (after (close x))
       go true false p q =
-          rw (step-cr byte close begun (held false x) b (eqb-true b 13 p), lone-cr byte close begun x c q)
+          rw (step-lone byte close (held true x) c refl (eqb-false c 10 q), ← step-plain byte close (held false (byte x 13)) c refl)
           (next (byte x 13) ∙ onto-over x 13 (linesOf (c ∷ bs)) ∙ ap (λ k. overLines byte close begun x (onto k (linesOf (c ∷ bs)))) (sym (eqb-true b 13 p)))
-      go false t p q =
-          rw (step-other byte close begun (held false x) b refl (eqb-false b 13 p)) (next (byte x b) ∙ onto-over x b (linesOf (c ∷ bs)))
+      go false t p q = next (byte x b) ∙ onto-over x b (linesOf (c ∷ bs))
 
   -- a file's bytes, read one by one from a line's start, are its lines read one by one
   pub file-is : (bs : List ℕ) (x : X) → finish byte close begun (fed (step byte close) (held false x) bs) ≡ overLines byte close begun x (linesOf bs)

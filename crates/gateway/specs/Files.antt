@@ -28,15 +28,18 @@ pub record Held (X : Type 0) : Type 0 where
 abbrev pub held : {X : Type 0} → Bool → X → Held X
 held t x = record { cr = t; at = x }
 
--- a CR that did not end the line is a byte of it
+-- a byte where no CR waits: a CR waits, any other byte is one of the line
+abbrev pub plain : {X : Type 0} → (X → ℕ → X) → X → ℕ → Held X
+plain byte x b = pick (eqb b 13) (held true x) (held false (byte x b))
+
+-- one byte of a file, for a reader that does `byte` for a byte of a line and `close` for a line's end: a CR that LF
+-- follows ends the line, and one that another byte follows is a byte of the line
+unfoldable pub step : {X : Type 0} → (X → ℕ → X) → (X → X) → Held X → ℕ → Held X
+step byte close s b = pick (s .cr) (pick (eqb b 10) (held false (close (s .at))) (plain byte (byte (s .at) 13) b)) (plain byte (s .at) b)
+
+-- a CR that nothing follows is a byte of the line
 abbrev pub settled : {X : Type 0} → (X → ℕ → X) → Held X → X
 settled byte s = pick (s .cr) (byte (s .at) 13) (s .at)
-
--- one byte of a file, for a reader that does `byte` for a byte of a line and `close` for a line's end
-unfoldable pub step : {X : Type 0} → (X → ℕ → X) → (X → X) → Held X → ℕ → Held X
-step byte close s b =
-    pick (s .cr and eqb b 10) (held false (close (s .at)))
-    (pick (eqb b 13) (held true (settled byte s)) (held false (byte (settled byte s) b)))
 
 -- the end of the present line, where a byte of it has come
 abbrev pub endOf : {X : Type 0} → (X → X) → (X → Bool) → X → X

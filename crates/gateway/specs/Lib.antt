@@ -1,1 +1,3 @@
 pub mod Files
+pub mod RuleLines
+pub mod RuleBytes

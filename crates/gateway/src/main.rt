@@ -1,2 +1,4 @@
 // gateway
+mod rules;
+
 fn main() {}
