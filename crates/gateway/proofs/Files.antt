@@ -86,3 +86,27 @@ module _ {X : Type 0} (byte : X → ℕ → X) (close : X → X) (begun : X → 
   file-is [] x = refl
   file-is (b ∷ []) x = one b x
   file-is (b ∷ c ∷ bs) x = two b c bs (file-is bs) (file-is (c ∷ bs)) x
+
+-- ---- a change of state that bytes and line ends do not see
+abbrev pub mapHeld : {X : Type 0} → (X → X) → Held X → Held X
+mapHeld φ s = held (s .cr) (φ (s .at))
+
+module _ {X : Type 0} (byte : X → ℕ → X) (close : X → X) (φ : X → X)
+    (byte-same : (x : X) (b : ℕ) → byte (φ x) b ≡ φ (byte x b)) (close-same : (x : X) → close (φ x) ≡ φ (close x)) where
+  plain-map : (x : X) (b : ℕ) → plain byte (φ x) b ≡ mapHeld φ (plain byte x b)
+  plain-map x b = go (eqb b 13)
+    where
+      go : (t : Bool) → pick t (held true (φ x)) (held false (byte (φ x) b)) ≡ mapHeld φ (pick t (held true x) (held false (byte x b)))
+      go true = refl
+      go false = ap (held false) (byte-same x b)
+
+  pub step-map : (s : Held X) (b : ℕ) → step byte close (mapHeld φ s) b ≡ mapHeld φ (step byte close s b)
+  unfolding step
+  step-map s b = go (s .cr) (eqb b 10)
+    where
+      go : (t u : Bool)
+          → pick t (pick u (held false (close (φ (s .at)))) (plain byte (byte (φ (s .at)) 13) b)) (plain byte (φ (s .at)) b)
+          ≡ mapHeld φ (pick t (pick u (held false (close (s .at))) (plain byte (byte (s .at) 13) b)) (plain byte (s .at) b))
+      go false u = plain-map (s .at) b
+      go true true = ap (held false) (close-same (s .at))
+      go true false = ap (λ y. plain byte y b) (byte-same (s .at) 13) ∙ plain-map (byte (s .at) 13) b

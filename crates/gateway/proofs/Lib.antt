@@ -2,3 +2,9 @@
 pub mod Files
 -- RuleSteps: laws of the rules file byte by byte.
 pub mod RuleSteps
+-- Lengths: how long a line that is printed is.
+-- HeaderSteps: laws of the headers file byte by byte.
+pub mod Lengths
+pub mod HeaderSteps
+-- Printing: laws of what is printed while the headers file is read.
+pub mod Printing

@@ -1,3 +1,6 @@
 pub mod Files
 pub mod RuleLines
 pub mod RuleBytes
+pub mod Said
+pub mod HeaderLines
+pub mod HeaderBytes

@@ -1,4 +1,6 @@
 // gateway
+mod headers;
 mod rules;
+mod say;
 
 fn main() {}
