@@ -2,7 +2,7 @@
 -- to, and what has been printed. That this comes to what `HeaderLines.antt` says of its lines is `headers-read` of
 -- `proofs/HeadersRead.antt`.
 -- Assumes nothing: these are definitions.
-use Prim.Native.Nat.{ℕ, _+_}
+use Prim.Native.Nat.{ℕ, _+_, _≤_, _<_}
 use mathlib.Core.Bool.{Bool, true, false}
 use mathlib.Core.List.{List, [], _∷_, _++_}
 use mathlib.Core.Path.{_≡_}
@@ -68,3 +68,8 @@ pub record PrintedAt (s : HeadersAt) (h : Headers) (header out : List ℕ) (at :
 pub record PrintedFile (s : Held HeadersAt) (f : HeadersFile) (header out : List ℕ) (at : ℕ) (after : List ℕ) (next : ℕ) : Type 0 where
   pub reads : s ≡ headersHeld f header (s .at .said)
   pub prints : Wrote out at (s .at .said) after next
+
+-- of n bytes these were read: no more than there are, and one at least where there are some
+pub record Taken (used n : ℕ) : Type 0 where
+  pub most : used ≤ n
+  pub some : 0 < n → 0 < used

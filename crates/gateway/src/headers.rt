@@ -18,9 +18,9 @@ ghost use Rattle.lists.specs.Rules.{listed};
 ghost use Rattle.text.specs.Cells.{fed};
 ghost use Rattle.text.specs.Rows.{fresh};
 ghost use Rattle.text.specs.Puts.{Put};
-ghost use Rattle.gateway.specs.Files.{plain, step, finish};
+ghost use Rattle.gateway.specs.Files.{plain, step, endOf, finish};
 ghost use Rattle.gateway.specs.HeaderLines.{eightOf, rowSaid};
-ghost use Rattle.gateway.specs.HeaderBytes.{headersAt, headersHeld, headerState, noHeaders, headersByte, headersClose, headersBegun, PrintedAt, PrintedFile};
+ghost use Rattle.gateway.specs.HeaderBytes.{headersAt, headersHeld, headerState, noHeaders, headersByte, headersClose, headersBegun, Wrote, PrintedAt, PrintedFile, Taken};
 
 // What has been read of the headers: the present line, with whether a byte of it has come.
 pub struct Headers {
@@ -200,7 +200,8 @@ fn headers_step(
     }
 }
 
-// Reads a piece of the file, cut anywhere, as far as there is room for another line of output.
+// Reads a piece of the file, cut anywhere, as long as there is room for another line of output: of some bytes at least
+// one.
 pub fn headers_feed(
     file: HeadersFile,
     bytes: &[u8],
@@ -211,31 +212,80 @@ pub fn headers_feed(
     out: &mut [u8],
     at: usize,
 ) -> Progress
+    requires { ⌜ at + 64 ≤ length (now out) ⌝ }
     ensures { λ r.
         ⌜ PrintedFile
         (fed (step headersByte (headersClose (listed shape (now (list .entry))) (now (table .entry)))) (headersHeld file (now (header .entry)) [])
         (take (r .used) (now (bytes .entry))))
         (r .file) (now (header .exit)) (now (out .entry)) at (now (out .exit)) (r .at) ⌝ }
-    ensures { λ r. ⌜ r .used ≤ length (now (bytes .entry)) ⌝ }
+    ensures { λ r. ⌜ Taken (r .used) (length (now (bytes .entry))) ⌝ }
 {
     let mut present = file;
     let mut place = at;
     let mut i = 0;
     while i < bytes.len() {
-        if out.len() < 64 {
-            break;
-        }
-        if out.len() - 64 < place {
-            break;
-        }
         let next = headers_step(present, bytes[i], shape, list, table, header, out, place);
         present = next.file;
         place = next.at;
         i += 1;
+        if out.len() - 64 < place {
+            return Progress {
+                file: present,
+                used: i,
+                at: place,
+            };
+        }
     }
     Progress {
         file: present,
         used: i,
         at: place,
     }
+}
+
+// Ends the present line at the file's end, where a byte of it has come, and puts its answer.
+fn headers_last(
+    headers: Headers,
+    shape: Shape,
+    list: &[u32],
+    table: &[u16],
+    header: &mut [u32],
+    out: &mut [u8],
+    at: usize,
+) -> usize
+    requires { ⌜ at + 64 ≤ length (now out) ⌝ }
+    ensures { λ r.
+        ⌜ Wrote (now (out .entry)) at
+        (endOf (headersClose (listed shape (now (list .entry))) (now (table .entry))) headersBegun (headersAt headers (now (header .entry)) []) .said)
+        (now (out .exit)) r ⌝ }
+{
+    if !headers.begun {
+        return at;
+    }
+    headers_close(headers, shape, list, table, header, out, at)
+}
+
+// Ends the file: puts the answer of a last line that no CRLF ends.
+pub fn headers_finish(
+    file: HeadersFile,
+    shape: Shape,
+    list: &[u32],
+    table: &[u16],
+    header: &mut [u32],
+    out: &mut [u8],
+    at: usize,
+) -> usize
+    requires { ⌜ at + 64 ≤ length (now out) ⌝ }
+    ensures { λ r.
+        ⌜ Wrote (now (out .entry)) at
+        (finish headersByte (headersClose (listed shape (now (list .entry))) (now (table .entry))) headersBegun
+        (headersHeld file (now (header .entry)) []) .said)
+        (now (out .exit)) r ⌝ }
+{
+    let headers = file.headers;
+    if !file.cr {
+        return headers_last(headers, shape, list, table, header, out, at);
+    }
+    let lone = headers_byte(headers, b'\r', header);
+    headers_last(lone, shape, list, table, header, out, at)
 }
