@@ -8,3 +8,5 @@ pub mod Lengths
 pub mod HeaderSteps
 -- Printing: laws of what is printed while the headers file is read.
 pub mod Printing
+-- Readying: laws of what becomes of the rules once their file has ended.
+pub mod Readying

@@ -4,3 +4,4 @@ pub mod RuleBytes
 pub mod Said
 pub mod HeaderLines
 pub mod HeaderBytes
+pub mod Ready

@@ -1,5 +1,6 @@
 // gateway
 mod headers;
+mod ready;
 mod rules;
 mod say;
 
