@@ -10,3 +10,5 @@ pub mod HeaderSteps
 pub mod Printing
 -- Readying: laws of what becomes of the rules once their file has ended.
 pub mod Readying
+-- Serving: laws of what the functions that call the system leave.
+pub mod Serving

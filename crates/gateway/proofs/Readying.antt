@@ -16,14 +16,15 @@ use lib.Dec.{ltb, eqb}
 use Rattle.ranges.specs.Numbers.{pick}
 use Rattle.ranges.specs.Refusals.{none, stands}
 use Rattle.ranges.specs.declared.refusal.Count.{Count}
-use Rattle.lists.specs.Rules.{Rules as Listed, fieldsOf, rulesIn}
+use Rattle.lists.specs.Rules.{Rules as Listed, listed, fieldsOf, rulesIn}
+use Rattle.lists.specs.declared.shape.Shape.{Shape}
 use Rattle.lists.specs.Faults.{listFault}
 use Rattle.sorting.specs.Layout.{tableLength}
 use Rattle.sorting.specs.Table.{builtTable}
 use Rattle.sorting.specs.Build.{Built}
 use Rattle.sorting.proofs.Sound.{list-shaped}
 use Rattle.sorting.proofs.Building.{fault-none}
-use Rattle.gateway.specs.Ready.{listRead, verdictOf, TableMade}
+use Rattle.gateway.specs.Ready.{shapeRead, listRead, verdictOf, TableMade}
 use Rattle.gateway.specs.declared.rules.Rules.{Rules}
 
 -- ---- the verdict
@@ -61,6 +62,14 @@ verdict-stands r l is = go (eqb (r .fault) 0) (eqb (r .lines) 0) (ltb (length l)
     go true true u p q w e = absurd (omega arith)
     go true false true p q w e = absurd (omega arith)
     go true false false p q w e = record { within = ltb-false (length l) (r .lines * r .width) w; fine = e }
+
+-- the same as the code has it: v is the verdict, k the count of numbers, s the shape
+module _ (r : Rules) (l : List ℕ) {v k : ℕ} (is : v ≡ verdictOf r l) (none : v ≡ 0) (count : k ≡ r .lines * r .width) where
+  pub stands-within : k ≤ length l
+  stands-within = rw count (verdict-stands r l (sym is ∙ none) .within)
+
+  pub stands-fine : {s : Shape} → s ≡ shapeRead r → listFault (listed s (take k l)) .number ≡ 0
+  stands-fine {s} shape = rw (count, shape) (verdict-stands r l (sym is ∙ none) .fine)
 
 -- ---- the table of a list that stands
 module _ (R : Listed) (fine : listFault R .number ≡ 0) where

@@ -5,3 +5,4 @@ pub mod Said
 pub mod HeaderLines
 pub mod HeaderBytes
 pub mod Ready
+pub mod Serving
