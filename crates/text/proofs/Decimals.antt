@@ -1,15 +1,17 @@
 -- Laws of a number's digits (`specs/Puts.antt`): the digits of n below 10 are one, those of any other are the digits of
 -- n / 10 and then the last. How far `digitsFrom` may count does not matter once it is above n.
 --     decimal-one, decimal-more      the digits of a number
+--     decimal-short                  how many they are at most
 --     decimal-read                   read back they are the number
 -- Assumes nothing.
-use Prim.Native.Nat.{ℕ, zero, suc, _+_, _-_, _*_, _/_, _%_, _≤_, _<_}
+use Prim.Native.Nat.{ℕ, zero, suc, _+_, _-_, _*_, _/_, _%_, _^_, _≤_, _<_}
 use mathlib.Core.Bool.{Bool, true, false}
 use mathlib.Core.List.{List, [], _∷_, _++_}
 use mathlib.Core.Path.{_≡_, refl, sym, ap, _∙_}
 use native.Mathlib.Omega.{arith}
 use borrow.Author.Tests.{lt-ltb, le-ltb, ltb-true, ltb-false}
 use lib.Dec.{ltb}
+use lib.ListN.{length, length-append}
 use Rattle.text.specs.Cells.{fed, withDigit, withByte, cellOf}
 use Rattle.text.specs.declared.cell.Cell.the-variants.{Empty, Number}
 use Rattle.text.specs.Puts.{spelled, digitsFrom, decimalOf}
@@ -39,6 +41,18 @@ decimal-more n le =
     let less : n / 10 < n = omega arith in
     let less' : n / 10 < suc (n / 10) = omega arith in
     rw (le-ltb n 10 le) (ap (λ ds. ds ++ ((48 + n % 10) ∷ [])) (digits-same n (suc (n / 10)) (n / 10) less less'))
+
+-- a number below 10 to the k has at most k digits
+pub decimal-short : (k n : ℕ) → n < 10 ^ suc k → length (decimalOf n) ≤ suc k
+decimal-short zero n small = rw (decimal-one n small) (omega arith)
+decimal-short (suc k) n small = go (ltb n 10) refl (decimal-short k (n / 10))
+  where
+    go : (t : Bool) → ltb n 10 ≡ t → (n / 10 < 10 ^ suc k → length (decimalOf (n / 10)) ≤ suc k) → length (decimalOf n) ≤ suc (suc k)
+    go true e follow = rw (decimal-one n (ltb-true n 10 e)) (omega arith)
+    go false e follow =
+        let large = ltb-false n 10 e in
+        let short = follow (omega arith) in
+        rw (decimal-more n large, length-append) (omega arith)
 
 -- ---- read back
 -- the first digit, and one more

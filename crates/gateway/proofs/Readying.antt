@@ -1,0 +1,97 @@
+-- Laws of what becomes of the rules once their file has ended (`specs/Ready.antt`).
+--     verdict-fault, verdict-none, verdict-short, verdict-list       the verdict, way by way
+--     Standing, verdict-stands                                       rules that stand
+--     table-fits, table-made                                         the table of a list that stands
+-- Assumes nothing.
+use Prim.Native.Nat.{ℕ, _+_, _*_, _≤_, _<_}
+use mathlib.Core.Bool.{Bool, true, false}
+use mathlib.Core.List.{List, _++_}
+use mathlib.Core.Path.{_≡_, refl, sym, ap, _∙_}
+use native.Mathlib.Omega.{arith}
+use native.Mathlib.Nat.{mul-le-mul}
+use borrow.Author.Tests.{lt-ltb, le-ltb, eq-eqb, ne-eqb, eqb-true, eqb-false, ltb-true, ltb-false}
+use lib.ListN.{length, take, drop, length-append}
+use lib.Seq.{take-at, length-take-le}
+use lib.Dec.{ltb, eqb}
+use Rattle.ranges.specs.Numbers.{pick}
+use Rattle.ranges.specs.Refusals.{none, stands}
+use Rattle.ranges.specs.declared.refusal.Count.{Count}
+use Rattle.lists.specs.Rules.{Rules as Listed, listed, fieldsOf, rulesIn}
+use Rattle.lists.specs.declared.shape.Shape.{Shape}
+use Rattle.lists.specs.Faults.{listFault}
+use Rattle.sorting.specs.Layout.{tableLength}
+use Rattle.sorting.specs.Table.{builtTable}
+use Rattle.sorting.specs.Build.{Built}
+use Rattle.sorting.proofs.Sound.{list-shaped}
+use Rattle.sorting.proofs.Building.{fault-none}
+use Rattle.gateway.specs.Ready.{shapeRead, listRead, verdictOf, TableMade}
+use Rattle.gateway.specs.declared.rules.Rules.{Rules}
+
+-- ---- the verdict
+module _ (r : Rules) (l : List ℕ) where
+  pub verdict-fault : (r .fault ≡ 0 → ⊥) → verdictOf r l ≡ r .fault
+  unfolding verdictOf
+  verdict-fault some = rw (ne-eqb (r .fault) 0 some)
+
+  module _ (fine : r .fault ≡ 0) where
+    pub verdict-none : r .lines ≡ 0 → verdictOf r l ≡ 1
+    unfolding verdictOf
+    verdict-none no-lines = rw (eq-eqb (r .fault) 0 fine, eq-eqb (r .lines) 0 no-lines)
+
+    module _ (lines : r .lines ≡ 0 → ⊥) where
+      pub verdict-short : length l < r .lines * r .width → verdictOf r l ≡ 8
+      unfolding verdictOf
+      verdict-short lt = rw (eq-eqb (r .fault) 0 fine, ne-eqb (r .lines) 0 lines, lt-ltb (length l) (r .lines * r .width) lt)
+
+      pub verdict-list : r .lines * r .width ≤ length l → verdictOf r l ≡ listFault (listRead r l) .number
+      unfolding verdictOf
+      verdict-list le = rw (eq-eqb (r .fault) 0 fine, ne-eqb (r .lines) 0 lines, le-ltb (length l) (r .lines * r .width) le)
+
+-- rules that stand: their numbers lie within the list, and the list's check finds nothing
+pub record Standing (r : Rules) (l : List ℕ) : Type 0 where
+  pub within : r .lines * r .width ≤ length l
+  pub fine : listFault (listRead r l) .number ≡ 0
+
+pub verdict-stands : (r : Rules) (l : List ℕ) → verdictOf r l ≡ 0 → Standing r l
+unfolding verdictOf
+verdict-stands r l is = go (eqb (r .fault) 0) (eqb (r .lines) 0) (ltb (length l) (r .lines * r .width)) refl refl refl is
+  where
+    go : (s t u : Bool) → eqb (r .fault) 0 ≡ s → eqb (r .lines) 0 ≡ t → ltb (length l) (r .lines * r .width) ≡ u
+        → _≡_ {A = ℕ} (pick s (pick t 1 (pick u 8 (listFault (listRead r l) .number))) (r .fault)) 0 → Standing r l
+    go false t u p q w e = absurd (eqb-false (r .fault) 0 p e)
+    go true true u p q w e = absurd (omega arith)
+    go true false true p q w e = absurd (omega arith)
+    go true false false p q w e = record { within = ltb-false (length l) (r .lines * r .width) w; fine = e }
+
+-- the same as the code has it: v is the verdict, k the count of numbers, s the shape
+module _ (r : Rules) (l : List ℕ) {v k : ℕ} (is : v ≡ verdictOf r l) (none : v ≡ 0) (count : k ≡ r .lines * r .width) where
+  pub stands-within : k ≤ length l
+  stands-within = rw count (verdict-stands r l (sym is ∙ none) .within)
+
+  pub stands-fine : {s : Shape} → s ≡ shapeRead r → listFault (listed s (take k l)) .number ≡ 0
+  stands-fine {s} shape = rw (count, shape) (verdict-stands r l (sym is ∙ none) .fine)
+
+-- ---- the table of a list that stands
+module _ (R : Listed) (fine : listFault R .number ≡ 0) where
+  pub few-rules : rulesIn R ≤ 1024
+  few-rules = list-shaped R fine .few-rules
+
+  pub few-fields : fieldsOf R ≤ 8
+  few-fields = list-shaped R fine .few-fields
+
+  pub table-fits : tableLength (rulesIn R) (fieldsOf R) ≤ 18436
+  unfolding tableLength
+  table-fits =
+      let product : rulesIn R * fieldsOf R ≤ 8192 = mul-le-mul few-rules few-fields in
+      omega (arith, few-rules)
+
+  pub table-made : (k : ℕ) (table : List ℕ) {after : List ℕ} {answer : Count} → k ≡ tableLength (rulesIn R) (fieldsOf R) → k ≤ length table
+      → Built R (take k table) after answer → length after ≡ length (take k table) → TableMade R k (after ++ drop k table)
+  table-made k table {after} {answer} is within built long =
+      let size : length (take k table) ≡ k = length-take-le k table within in
+      let nothing = fault-none R (take k table) (record { no-fault = fine; sized = record { long = size ∙ is } }) in
+      let long' : length after ≡ k = long ∙ size in
+      record {
+        within = omega (arith, length-append after (drop k table));
+        made = take-at after (drop k table) k long' ∙ built .leaves ∙ rw nothing;
+      }

@@ -1,0 +1,125 @@
+-- Laws of the rules file byte by byte (`specs/RuleBytes.antt`, `specs/RuleLines.antt`), way by way.
+--     fault-bad, fault-same, fault-other, fault-odd, fault-wide, fault-none      the fault of a line
+--     judged-fault, judged-fine                     the rules after a line
+--     byte-stays, byte-many, byte-ends, byte-takes  one byte of a line
+--     close-stays, close-many, close-judged         a line's end
+-- Assumes nothing.
+use Prim.Native.Nat.{ℕ, _+_, _*_, _%_, _^_, _≤_, _<_}
+use mathlib.Core.Bool.{Bool, true, false}
+use mathlib.Core.List.{List, [], _∷_}
+use mathlib.Core.Path.{_≡_, refl, sym, ap, _∙_}
+use native.Mathlib.Omega.{arith}
+use borrow.Author.Tests.{lt-ltb, le-ltb, le-leb, lt-leb, eq-eqb, ne-eqb, ltb-true, ltb-false, eqb-true, eqb-false}
+use lib.Dec.{ltb, leb, eqb}
+use Rattle.ranges.specs.Numbers.{pick}
+use Rattle.ranges.proofs.Numbers.{never}
+use Rattle.text.specs.Rows.{fresh, rowWith, rowNext, keptAt}
+use Rattle.text.specs.declared.row.Row.{Row}
+use Rattle.gateway.specs.RuleLines.{widthFault, cellsFault}
+use Rattle.gateway.specs.RuleBytes.{RulesAt, rulesAt, ruleState, faultedBy, withRow, judgedBy, startsAt, rulesByte, rulesClose}
+use Rattle.gateway.specs.declared.rules.Rules.{Rules}
+
+-- ---- the fault of a line
+module _ (i w : ℕ) (good : Bool) (k : ℕ) where
+  pub fault-bad : good ≡ false → cellsFault i w good k ≡ 8
+  unfolding cellsFault
+  fault-bad e = rw e
+
+  module _ (fine : good ≡ true) where
+    pub fault-same : (i ≡ 0 → ⊥) → k ≡ w → cellsFault i w good k ≡ 0
+    unfolding cellsFault
+    fault-same later same = rw (fine, ne-eqb i 0 later, eq-eqb k w same)
+
+    pub fault-other : (i ≡ 0 → ⊥) → (k ≡ w → ⊥) → cellsFault i w good k ≡ 8
+    unfolding cellsFault
+    fault-other later other = rw (fine, ne-eqb i 0 later, ne-eqb k w other)
+
+    pub fault-odd : i ≡ 0 → k % 2 ≡ 1 → cellsFault i w good k ≡ 8
+    unfolding cellsFault widthFault
+    fault-odd first odd = rw (fine, eq-eqb i 0 first, eq-eqb (k % 2) 1 odd)
+
+    pub fault-wide : i ≡ 0 → (k % 2 ≡ 1 → ⊥) → 16 < k → cellsFault i w good k ≡ 1
+    unfolding cellsFault widthFault
+    fault-wide first even wide = rw (fine, eq-eqb i 0 first, ne-eqb (k % 2) 1 even, lt-ltb 16 k wide)
+
+    pub fault-none : i ≡ 0 → (k % 2 ≡ 1 → ⊥) → k ≤ 16 → cellsFault i w good k ≡ 0
+    unfolding cellsFault widthFault
+    fault-none first even few = rw (fine, eq-eqb i 0 first, ne-eqb (k % 2) 1 even, le-ltb 16 k few)
+
+-- a line without fault: its cells are numbers, and as many as the first line's, at most 16 and even on the first
+pub record Fine (i w : ℕ) (good : Bool) (k : ℕ) : Type 0 where
+  pub numbers : good ≡ true
+  pub first : i ≡ 0 → (k % 2 ≡ 0) × (k ≤ 16)
+  pub later : (i ≡ 0 → ⊥) → k ≡ w
+
+width-fine : (k : ℕ) → widthFault k ≡ 0 → (k % 2 ≡ 0) × (k ≤ 16)
+unfolding widthFault
+width-fine k none = go (eqb (k % 2) 1) (ltb 16 k) refl refl none
+  where
+    go : (s t : Bool) → eqb (k % 2) 1 ≡ s → ltb 16 k ≡ t → _≡_ {A = ℕ} (pick s 8 (pick t 1 0)) 0 → (k % 2 ≡ 0) × (k ≤ 16)
+    go true t p q e = absurd (omega arith)
+    go false true p q e = absurd (omega arith)
+    go false false p q e =
+        let even : k % 2 ≡ 1 → ⊥ = eqb-false (k % 2) 1 p in
+        let few : k ≤ 16 = ltb-false 16 k q in
+        (omega arith, few)
+
+pub fault-fine : (i w : ℕ) (good : Bool) (k : ℕ) → cellsFault i w good k ≡ 0 → Fine i w good k
+unfolding cellsFault
+fault-fine i w false k none = absurd (omega arith)
+fault-fine i w true k none = go (eqb i 0) (eqb k w) refl refl none
+  where
+    go : (s t : Bool) → eqb i 0 ≡ s → eqb k w ≡ t → _≡_ {A = ℕ} (pick s (widthFault k) (pick t 0 8)) 0 → Fine i w true k
+    go true t p q e = record { numbers = refl; first = λ z. width-fine k e; later = λ nz. absurd (nz (eqb-true i 0 p)) }
+    go false true p q e = record { numbers = refl; first = λ z. absurd (eqb-false i 0 p z); later = λ nz. eqb-true k w q }
+    go false false p q e = absurd (omega arith)
+
+-- the count of such a line fits 16 bits where the first line's does
+pub fine-narrow : {i w : ℕ} {good : Bool} {k : ℕ} → Fine i w good k → w < 2 ^ 16 → k < 2 ^ 16
+fine-narrow {i} {w} {good} {k} fine small = go (eqb i 0) refl
+  where
+    go : (t : Bool) → eqb i 0 ≡ t → k < 2 ^ 16
+    go true e = let f = fine .first (eqb-true i 0 e) in omega arith
+    go false e = let f = fine .later (eqb-false i 0 e) in omega arith
+
+-- ---- the rules after a line
+module _ (r : Rules) (row : Row) {f : ℕ} (is : f ≡ cellsFault (r .lines) (r .width) (row .good) (row .cells)) where
+  pub judged-fault : (f ≡ 0 → ⊥) → faultedBy r f ≡ judgedBy r row
+  unfolding judgedBy
+  judged-fault some = rw (← is, ne-eqb f 0 some)
+
+  pub judged-fine : f ≡ 0 → ruleState false fresh (r .lines + 1) (row .cells) 0 ≡ judgedBy r row
+  unfolding judgedBy
+  judged-fine none = rw (← is, eq-eqb f 0 none)
+
+-- ---- one byte of a line, and a line's end
+module _ (r : Rules) (list : List ℕ) where
+  pub byte-stays : (b : ℕ) → (r .fault ≡ 0 → ⊥) → rulesAt r list ≡ rulesByte (rulesAt r list) b
+  unfolding rulesByte
+  byte-stays b some = rw (ne-eqb (r .fault) 0 some)
+
+  pub close-stays : (r .fault ≡ 0 → ⊥) → rulesAt r list ≡ rulesClose (rulesAt r list)
+  unfolding rulesClose
+  close-stays some = rw (ne-eqb (r .fault) 0 some)
+
+  module _ (none : r .fault ≡ 0) where
+    pub byte-many : (b : ℕ) → 1024 ≤ r .lines → rulesAt (faultedBy r 3) list ≡ rulesByte (rulesAt r list) b
+    unfolding rulesByte
+    byte-many b many = rw (eq-eqb (r .fault) 0 none, le-leb 1024 (r .lines) many)
+
+    pub close-many : 1024 ≤ r .lines → rulesAt (faultedBy r 3) list ≡ rulesClose (rulesAt r list)
+    unfolding rulesClose
+    close-many many = rw (eq-eqb (r .fault) 0 none, le-leb 1024 (r .lines) many)
+
+    module _ (few : r .lines < 1024) where
+      pub byte-ends : (b : ℕ) → b ≡ 44 → rulesAt (withRow r (rowNext (r .row))) (keptAt (r .row) (startsAt r) list) ≡ rulesByte (rulesAt r list) b
+      unfolding rulesByte
+      byte-ends b is = rw (eq-eqb (r .fault) 0 none, lt-leb 1024 (r .lines) few, eq-eqb b 44 is)
+
+      pub byte-takes : (b : ℕ) → (b ≡ 44 → ⊥) → rulesAt (withRow r (rowWith (r .row) b)) list ≡ rulesByte (rulesAt r list) b
+      unfolding rulesByte
+      byte-takes b other = rw (eq-eqb (r .fault) 0 none, lt-leb 1024 (r .lines) few, ne-eqb b 44 other)
+
+      pub close-judged : rulesAt (judgedBy r (rowNext (r .row))) (keptAt (r .row) (startsAt r) list) ≡ rulesClose (rulesAt r list)
+      unfolding rulesClose
+      close-judged = rw (eq-eqb (r .fault) 0 none, lt-leb 1024 (r .lines) few)

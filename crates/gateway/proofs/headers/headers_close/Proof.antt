@@ -1,0 +1,30 @@
+-- `gateway::headers::headers_close` meets its contract: the last cell ends, the answer is put, the header is cleared.
+-- Assumes nothing.
+use borrow.Author.Needs.{needs}
+use Rattle.lists.specs.Rules.{listed}
+use Rattle.gateway.proofs.Printing.{close-printed}
+use Rattle.gateway.proofs.headers.headers_close.Statement.{statement}
+use Rattle.gateway.proofs.headers.headers_close.Tie as tie
+
+row-next-requires : tie.Need-row-next-requires
+row-next-requires c κs = search needs
+
+put-row-requires : tie.Need-put-row-requires
+put-row-requires c κs = search needs
+
+clear-requires : tie.Need-clear-requires
+clear-requires c κs = search needs
+
+same-length : tie.Need-same-length
+same-length c = search needs
+
+same-length-2 : tie.Need-same-length-2
+same-length-2 c = search needs
+
+returns : tie.Need-returns
+returns c = close-printed (listed (c .before .before .before .before .before .before .before .before .before .before .before .before .before .before .before .before .before .before .args .shape) (c .before .before .before .before .before .before .before .before .before .before .before .before .before .before .before .before .before .before .args .list .now)) (c .before .before .before .before .before .before .before .before .before .before .before .before .before .before .before .before .before .before .args .table .now) (c .before .before .before .before .before .before .before .before .before .before .before .before .before .before .before .before .before .before .args .headers) (c .before .before .before .before .before .before .before .before .before .before .before .before .before .before .before .before .before .before .args .header .now) (c .before .before .before .before .before .before .before .before .before .before .before .row-next .ensures .0) (c .before .before .before .before .before .before .before .before .before .before .before .row-next .ensures .1) (c .before .before .clear .ensures) (c .before .before .before .before .before .before .put-row .ensures .0) (c .before .before .before .before .before .before .put-row .ensures .1) (c .before .before .before .before .before .before .before .before .before .before .before .before .before .before .before .before .before .before .pre)
+
+pub headers-close-spec : {M : Type 1} → statement M
+headers-close-spec =
+    tie.close
+    (tie.spec row-next-requires put-row-requires clear-requires same-length same-length-2 returns)

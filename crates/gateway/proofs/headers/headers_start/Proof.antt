@@ -1,0 +1,14 @@
+-- `gateway::headers::headers_start` meets its contract.
+-- Assumes nothing.
+use borrow.Author.Needs.{needs}
+use Rattle.gateway.proofs.headers.headers_start.Statement.{statement}
+use Rattle.gateway.proofs.headers.headers_start.Tie as tie
+
+row-start-requires : tie.Need-row-start-requires
+row-start-requires c κs = search needs
+
+returns : tie.Need-returns
+returns c = rw (c .row-start .ensures)
+
+pub headers-start-spec : {M : Type 1} → statement M
+headers-start-spec = tie.close (tie.spec row-start-requires returns)

@@ -1,0 +1,65 @@
+-- `gateway::headers::put_row` meets its contract: each way out is the law of its case.
+-- Assumes nothing.
+use borrow.Author.Needs.{needs}
+use mathlib.Core.Path.{sym, ap, _∙_}
+use borrow.Author.Tests.{not-true, not-false}
+use Rattle.lists.specs.Rules.{listed}
+use Rattle.gateway.proofs.HeaderSteps.{row-bad, row-other, row-looked}
+use Rattle.gateway.proofs.headers.put_row.Statement.{statement}
+use Rattle.gateway.proofs.headers.put_row.Tie as tie
+
+put-refused-requires : tie.Need-put-refused-requires
+put-refused-requires c κs = search needs
+
+same-length : tie.Need-same-length
+same-length c = search needs
+
+-- a cell that is no number
+returns : tie.Need-returns
+returns c = rw (row-bad (listed (c .before .before .before .before .before .before .before .before .before .before .args .shape) (c .before .before .before .before .before .before .before .before .before .before .args .list .now)) (c .before .before .before .before .before .before .before .before .before .before .args .table .now) (c .before .before .before .before .before .before .before .before .before .before .args .row .good) (c .before .before .before .before .before .before .before .before .before .before .args .row .cells) (c .before .before .before .before .before .before .before .before .before .before .args .header .now) (not-true (c .before .before .before .before .before .before .before .before .before .before .args .row .good) (c .before .before .before .before .if1 .taken))) (c .before .before .put-refused .ensures)
+
+cast-if2 : tie.Need-cast-if2
+cast-if2 c = search needs
+
+put-refused-requires-2 : tie.Need-put-refused-requires-2
+put-refused-requires-2 c κs = search needs
+
+same-length-2 : tie.Need-same-length-2
+same-length-2 c = search needs
+
+-- another number of cells
+returns-2 : tie.Need-returns-2
+returns-2 c = rw (row-other (listed (c .before .before .before .before .before .before .before .before .before .before .before .before .before .args .shape) (c .before .before .before .before .before .before .before .before .before .before .before .before .before .args .list .now)) (c .before .before .before .before .before .before .before .before .before .before .before .before .before .args .table .now) (c .before .before .before .before .before .before .before .before .before .before .before .before .before .args .row .good) (c .before .before .before .before .before .before .before .before .before .before .before .before .before .args .row .cells) (c .before .before .before .before .before .before .before .before .before .before .before .before .before .args .header .now) (not-false (c .before .before .before .before .before .before .before .before .before .before .before .before .before .args .row .good) (c .before .before .before .before .before .before .before .if1 .left)) (c .before .before .before .before .if2 .taken)) (c .before .before .put-refused2 .ensures)
+
+eight-requires : tie.Need-eight-requires
+eight-requires c κs = search needs
+
+lookup-requires : tie.Need-lookup-requires
+lookup-requires c κs = search needs
+
+put-looked-requires : tie.Need-put-looked-requires
+put-looked-requires c κs = search needs
+
+same-length-3 : tie.Need-same-length-3
+same-length-3 c = search needs
+
+-- a header
+returns-3 : tie.Need-returns-3
+returns-3 c = rw (row-looked (listed (c .before .before .before .before .before .before .before .before .before .before .before .before .before .before .before .args .shape) (c .before .before .before .before .before .before .before .before .before .before .before .before .before .before .before .args .list .now)) (c .before .before .before .before .before .before .before .before .before .before .before .before .before .before .before .args .table .now) (c .before .before .before .before .before .before .before .before .before .before .before .before .before .before .before .args .row .good) (c .before .before .before .before .before .before .before .before .before .before .before .before .before .before .before .args .row .cells) (c .before .before .before .before .before .before .before .before .before .before .before .before .before .before .before .args .header .now) (not-false (c .before .before .before .before .before .before .before .before .before .before .before .before .before .before .before .args .row .good) (c .before .before .before .before .before .before .before .before .before .if1 .left)) (c .before .before .before .before .before .before .if2 .left), ← c .before .before .before .before .before .eight .ensures, ← c .before .before .before .before .lookup .ensures) (c .before .before .put-looked .ensures)
+
+pub put-row-spec : {M : Type 1} → statement M
+put-row-spec =
+    tie.close
+    (tie.spec
+    put-refused-requires
+    same-length
+    returns
+    cast-if2
+    put-refused-requires-2
+    same-length-2
+    returns-2
+    eight-requires
+    lookup-requires
+    put-looked-requires
+    same-length-3
+    returns-3)

@@ -1,0 +1,41 @@
+-- `gateway::say::put_refused` meets its contract: the word, the number, the line's end.
+-- Assumes nothing.
+use borrow.Author.Needs.{needs}
+use Rattle.text.proofs.Puts.{put-then}
+use native.Mathlib.Omega.{arith}
+use Rattle.gateway.proofs.Lengths.{refused-short}
+use Rattle.gateway.proofs.say.put_refused.Statement.{statement}
+use Rattle.gateway.proofs.say.put_refused.Tie as tie
+
+slice-aggregate-put-text : tie.Need-slice-aggregate-put-text
+slice-aggregate-put-text c = search needs
+
+put-text-requires : tie.Need-put-text-requires
+put-text-requires c κs = search needs
+
+put-number-requires : tie.Need-put-number-requires
+put-number-requires c κs = search needs
+
+slice-aggregate-put-text-2 : tie.Need-slice-aggregate-put-text-2
+slice-aggregate-put-text-2 c = search needs
+
+put-text-requires-2 : tie.Need-put-text-requires-2
+put-text-requires-2 c κs = search needs
+
+same-length : tie.Need-same-length
+same-length c = search needs
+
+returns : tie.Need-returns
+returns c = (put-then (put-then (c .before .before .before .before .before .before .before .before .before .before .before .put-text .ensures) (c .before .before .before .before .before .before .before .put-number .ensures)) (c .before .before .put-text2 .ensures), refused-short (c .before .before .before .before .before .before .before .before .before .before .before .before .before .before .before .args .number) (omega arith))
+
+pub put-refused-spec : {M : Type 1} → statement M
+put-refused-spec =
+    tie.close
+    (tie.spec
+    slice-aggregate-put-text
+    put-text-requires
+    put-number-requires
+    slice-aggregate-put-text-2
+    put-text-requires-2
+    same-length
+    returns)

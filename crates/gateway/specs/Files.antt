@@ -1,0 +1,56 @@
+-- 01, The program: a file is lines that end in CRLF, the last CRLF optional. 13 is CR and 10 is LF.
+-- A line ends at CRLF and nowhere else: a lone CR or LF is a byte of its line (reading 7).
+-- `linesOf` cuts a whole file into its lines. `step` and `finish` say the same byte by byte, as the code goes, of any
+-- reader that has something to do for a byte of a line and for a line's end; that the two agree is `file-is` of
+-- `proofs/Files.antt`.
+-- Assumes nothing: these are definitions.
+use Prim.Native.Nat.{ℕ}
+use mathlib.Core.Bool.{Bool, true, false}
+use mathlib.Core.List.{List, [], _∷_}
+use lib.Dec.{eqb}
+use Rattle.ranges.specs.Numbers.{pick, _and_}
+use Rattle.text.specs.Cells.{fed}
+use Rattle.text.specs.Rows.{onto}
+
+-- ---- a whole file
+-- the lines of a file; what follows the last CRLF, if anything, is a last line
+abbrev pub linesOf : List ℕ → List (List ℕ)
+linesOf [] = []
+linesOf (b ∷ []) = (b ∷ []) ∷ []
+linesOf (b ∷ c ∷ bs) = pick (eqb b 13 and eqb c 10) ([] ∷ linesOf bs) (onto b (linesOf (c ∷ bs)))
+
+-- ---- byte by byte
+-- a reader's state, and whether the last byte was a CR of which it is not known yet whether it ends the line
+pub record Held (X : Type 0) : Type 0 where
+  pub cr : Bool
+  pub at : X
+
+abbrev pub held : {X : Type 0} → Bool → X → Held X
+held t x = record { cr = t; at = x }
+
+-- a byte where no CR waits: a CR waits, any other byte is one of the line
+abbrev pub plain : {X : Type 0} → (X → ℕ → X) → X → ℕ → Held X
+plain byte x b = pick (eqb b 13) (held true x) (held false (byte x b))
+
+-- one byte of a file, for a reader that does `byte` for a byte of a line and `close` for a line's end: a CR that LF
+-- follows ends the line, and one that another byte follows is a byte of the line
+unfoldable pub step : {X : Type 0} → (X → ℕ → X) → (X → X) → Held X → ℕ → Held X
+step byte close s b = pick (s .cr) (pick (eqb b 10) (held false (close (s .at))) (plain byte (byte (s .at) 13) b)) (plain byte (s .at) b)
+
+-- a CR that nothing follows is a byte of the line
+abbrev pub settled : {X : Type 0} → (X → ℕ → X) → Held X → X
+settled byte s = pick (s .cr) (byte (s .at) 13) (s .at)
+
+-- the end of the present line, where a byte of it has come
+abbrev pub endOf : {X : Type 0} → (X → X) → (X → Bool) → X → X
+endOf close begun x = pick (begun x) (close x) x
+
+-- the file's end
+unfoldable pub finish : {X : Type 0} → (X → ℕ → X) → (X → X) → (X → Bool) → Held X → X
+finish byte close begun s = endOf close begun (settled byte s)
+
+-- ---- line by line
+-- whole lines one after the other
+abbrev pub overLines : {X : Type 0} → (X → ℕ → X) → (X → X) → (X → Bool) → X → List (List ℕ) → X
+overLines byte close begun x [] = endOf close begun x
+overLines byte close begun x (l ∷ ls) = overLines byte close begun (close (fed byte x l)) ls

@@ -1,0 +1,64 @@
+-- 01, The program: the rules file, line by line. The first rule line sets the number of cells: odd gives 8, even but not
+-- 2 to 16 gives 1; an empty file gives 1. Unreadable numbers on that line give 8, and this is tested first. A later rule
+-- line with a bad number or another cell count gives 8; line 1,025 gives 3, whatever stands on it; 4 is looked for after
+-- the last line.
+-- A fault is its refusal's number, and 0 says that there is none.
+-- Assumes nothing: these are definitions.
+use Prim.Native.Nat.{ℕ, suc, _/_, _%_}
+use mathlib.Core.Bool.{Bool}
+use mathlib.Core.List.{List, [], _∷_, _++_}
+use lib.ListN.{length}
+use lib.Dec.{ltb, leb, eqb}
+use Rattle.ranges.specs.Numbers.{pick}
+use Rattle.ranges.specs.Refusals.{numberOf, BadFields, BadLine, TooManyRules}
+use Rattle.lists.specs.Rules.{Rules, listed}
+use Rattle.lists.specs.Faults.{listFault}
+use Rattle.text.specs.Rows.{cellsIn, allNumbers, numbersOf}
+
+-- the cells of a line, parted by commas
+abbrev pub cellsOf : List ℕ → List (List ℕ)
+cellsOf line = cellsIn 44 line
+
+-- the first of two faults
+abbrev pub firstOf : ℕ → ℕ → ℕ
+firstOf f g = pick (eqb f 0) g f
+
+-- the number of cells of the first line: odd gives 8, even but not 2 to 16 gives 1
+unfoldable pub widthFault : ℕ → ℕ
+widthFault k = pick (eqb (k % 2) 1) (numberOf BadLine) (pick (ltb 16 k) (numberOf BadFields) 0)
+
+-- a line of k cells, all numbers or not, after i lines, of which the first had w cells
+unfoldable pub cellsFault : ℕ → ℕ → Bool → ℕ → ℕ
+cellsFault i w good k = pick good (pick (eqb i 0) (widthFault k) (pick (eqb k w) 0 (numberOf BadLine))) (numberOf BadLine)
+
+-- a line after i lines: the 1,025th gives 3, whatever stands on it
+abbrev pub lineFault : ℕ → ℕ → List (List ℕ) → ℕ
+lineFault i w cells = pick (leb 1024 i) (numberOf TooManyRules) (cellsFault i w (allNumbers cells) (length cells))
+
+-- the first fault of lines after i lines, where the first line has w cells
+abbrev pub linesFault : ℕ → ℕ → List (List ℕ) → ℕ
+linesFault i w [] = 0
+linesFault i w (l ∷ ls) = firstOf (lineFault i w (cellsOf l)) (linesFault (suc i) w ls)
+
+-- how many cells the first line has, 0 where there is none
+abbrev pub widthOf : List (List ℕ) → ℕ
+widthOf [] = 0
+widthOf (l ∷ ls) = length (cellsOf l)
+
+-- the numbers of all lines, one after the other
+abbrev pub listOf : List (List ℕ) → List ℕ
+listOf [] = []
+listOf (l ∷ ls) = numbersOf (cellsOf l) ++ listOf ls
+
+-- the list of rules: half as many fields as cells
+abbrev pub rulesOf : List (List ℕ) → Rules
+rulesOf ls = listed record { d = widthOf ls / 2 } (listOf ls)
+
+-- the fault of a whole rules file, by its lines: the first of its lines, or 1 where there is none, and then what the list's
+-- check finds, which is 4
+abbrev pub linesRead : List (List ℕ) → ℕ
+linesRead [] = numberOf BadFields
+linesRead (l ∷ ls) = linesFault 0 (widthOf (l ∷ ls)) (l ∷ ls)
+
+abbrev pub rulesFault : List (List ℕ) → ℕ
+rulesFault ls = firstOf (linesRead ls) (listFault (rulesOf ls) .number)
