@@ -12,3 +12,11 @@ pub mod Printing
 pub mod Readying
 -- Serving: laws of what the functions that call the system leave.
 pub mod Serving
+-- HeadersRead: what the headers file prints.
+pub mod HeadersRead
+-- RulesRead: what the rules file comes to.
+pub mod RulesRead
+-- Theorems: the headline statements.
+pub mod Theorems
+-- Cases: what is printed for the bench list.
+pub mod Cases

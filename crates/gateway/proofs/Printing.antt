@@ -8,16 +8,15 @@ use mathlib.Core.Bool.{Bool, true, false}
 use mathlib.Core.List.{List, [], _∷_, _++_, append-assoc, append-nil}
 use mathlib.Core.Path.{_≡_, refl, sym, ap, _∙_, subst}
 use native.Mathlib.Omega.{arith}
-use lib.ListN.{length, take, drop, set, replicate, length-append, length-set}
+use lib.ListN.{length, take, drop, set, replicate, length-append}
 use lib.Seq.{take-at, length-take-le}
 use lib.Dec.{eqb}
 use Rattle.ranges.specs.Numbers.{pick}
 use Rattle.lists.specs.Rules.{Rules}
-use Rattle.text.specs.Rows.{fresh, rowWith, rowNext, keptAt, keptAs}
+use Rattle.text.specs.Rows.{fresh, rowWith, rowNext, keptAt}
 use Rattle.text.specs.Puts.{Put}
 use Rattle.text.specs.declared.row.Row.{Row}
-use Rattle.text.specs.declared.cell.Cell.{Cell}
-use Rattle.text.specs.declared.cell.Cell.the-variants.{Empty, Number, Bad}
+use Rattle.text.proofs.Rows.{kept-long}
 use Rattle.text.proofs.Puts.{put-length, put-place, put-fits}
 use Rattle.gateway.specs.Files.{Held, held, step}
 use Rattle.gateway.specs.HeaderLines.{rowSaid}
@@ -48,15 +47,6 @@ module _ {out : List ℕ} {at : ℕ} where
       }
 
 -- ---- a line's end
-kept-length : (cell : Cell) (at : ℕ) (run : List ℕ) → length (keptAs cell at run) ≡ length run
-kept-length Empty at run = refl
-kept-length (Number v) at run = length-set run at v
-kept-length Bad at run = refl
-
-pub kept-long : (row : Row) (from : ℕ) (run : List ℕ) → length (keptAt row from run) ≡ length run
-unfolding keptAt
-kept-long row from run = kept-length (row .cell) (from + row .cells) run
-
 pub close-printed : (R : Rules) (T : List ℕ) (h : Headers) (header : List ℕ) {row : Row} {mid cleared out after : List ℕ} {at next : ℕ}
     → row ≡ rowNext (h .row) → mid ≡ keptAt (h .row) 0 header → cleared ≡ replicate (length mid) 0
     → Put out at (rowSaid R T (row .good) (row .cells) mid) after next → length (rowSaid R T (row .good) (row .cells) mid) ≤ 64 → at + 64 ≤ length out

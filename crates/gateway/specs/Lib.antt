@@ -6,3 +6,4 @@ pub mod HeaderLines
 pub mod HeaderBytes
 pub mod Ready
 pub mod Serving
+pub mod Program

@@ -9,11 +9,9 @@
 // the list, of at most 16,384 numbers, and that state. The list is checked and its table is built once (`ready`), then
 // each header line is one lookup. Lines are put into a run of bytes (`say`) and written when it is full.
 //
-// What is proved. Each function below `serve` meets its contract on slices: feeding a piece is folding its bytes into the
-// state (`specs/RuleBytes.antt`, `specs/HeaderBytes.antt`), so how a file is cut into pieces alters nothing, and a file
-// read byte by byte is read line by line (`proofs/Files.antt`). That the folds together print what 01 says of the two
-// files' lines is held against the second program (`tests/run gateway`), and is not one theorem yet. The calls of the
-// system, in `serve` and here, are tested alone.
+// What is proved. Each function below `serve` meets its contract on slices; `proofs/Theorems.antt` puts them together: what
+// is printed is `programOf` of the two files' bytes, however they are cut into pieces. Only the calls of the system in
+// `serve` and here are tested alone.
 mod headers;
 mod ready;
 mod rules;

@@ -3,8 +3,10 @@
 -- Rows: that a line read byte by byte is what its cells come to.
 -- Puts: of bytes put from a place on.
 -- Decimals: of a number's digits.
+-- Counted: what a whole line's cells come to.
 pub mod Feeding
 pub mod Cells
 pub mod Rows
 pub mod Puts
 pub mod Decimals
+pub mod Counted

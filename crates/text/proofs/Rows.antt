@@ -1,6 +1,8 @@
 -- Laws of a line of numbers read cell by cell (`specs/Rows.antt`), and the statement that its bytes come to its cells.
 --     more-few, more-many                  one cell more
---     next-empty, next-number, next-bad    the line after a cell, and the run then
+--     next-empty, next-number, next-bad    the line after a cell
+--     kept-empty, kept-number, kept-bad    the run then
+--     kept-length, kept-long               which keeps its length
 --     row-is                               all bytes of a line: its cells
 -- Assumes nothing.
 use Prim.Native.Nat.{ℕ, _+_, _-_, _≤_, _<_}
@@ -8,11 +10,11 @@ use mathlib.Core.Bool.{Bool, true, false}
 use mathlib.Core.List.{List, [], _∷_}
 use mathlib.Core.Path.{_≡_, refl, sym, ap, _∙_}
 use borrow.Author.Tests.{lt-ltb, le-ltb}
-use lib.ListN.{set}
+use lib.ListN.{length, set, length-set}
 use lib.Dec.{eqb}
 use Rattle.ranges.specs.Numbers.{pick}
 use Rattle.text.specs.Cells.{fed, withByte}
-use Rattle.text.specs.Rows.{oneMore, rowNext, keptAt, onto, cellsIn, Reading, begin, ended, within, readByte, readCell, readCells}
+use Rattle.text.specs.Rows.{oneMore, rowNext, keptAs, keptAt, onto, cellsIn, Reading, begin, ended, within, readByte, readCell, readCells}
 use Rattle.text.proofs.Cells.{cell-is}
 use Rattle.text.specs.declared.cell.Cell.{Cell}
 use Rattle.text.specs.declared.cell.Cell.the-variants.{Empty, Number, Bad}
@@ -53,6 +55,16 @@ module _ (row : Row) (from : ℕ) (run : List ℕ) where
   pub kept-bad : row .cell ≡ Bad → run ≡ keptAt row from run
   unfolding keptAt
   kept-bad e = rw e
+
+-- the run keeps its length
+pub kept-length : (cell : Cell) (at : ℕ) (run : List ℕ) → length (keptAs cell at run) ≡ length run
+kept-length Empty at run = refl
+kept-length (Number v) at run = length-set run at v
+kept-length Bad at run = refl
+
+pub kept-long : (row : Row) (from : ℕ) (run : List ℕ) → length (keptAt row from run) ≡ length run
+unfolding keptAt
+kept-long row from run = kept-length (row .cell) (from + row .cells) run
 
 -- ---- the bytes of a line come to its cells
 -- the present cell takes whole bytes and ends

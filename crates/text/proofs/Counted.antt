@@ -1,0 +1,111 @@
+-- What a whole line's cells come to (`readCells` of `specs/Rows.antt`): whether all are numbers, how many they are, and
+-- where their numbers stand in the run.
+--     number-is                             a cell that is a number
+--     cells-good, cells-count, cells-run    what cells come to
+--     cells-long                            the run keeps its length
+--     many-few, many-large, many-parity     the count, exact up to 65,536 and even or odd as it should be past that
+-- Assumes nothing.
+use Prim.Native.Nat.{ℕ, zero, suc, _+_, _-_, _%_, _≤_, _<_}
+use mathlib.Core.Bool.{Bool, true, false}
+use mathlib.Core.List.{List, [], _∷_}
+use mathlib.Core.Path.{_≡_, refl, sym, ap, _∙_}
+use native.Mathlib.Omega.{arith}
+use borrow.Author.Tests.{ltb-true, ltb-false}
+use lib.Dec.{ltb}
+use lib.ListN.{length, set}
+use lib.Seq.{sets}
+use Rattle.ranges.specs.Numbers.{pick, _and_}
+use Rattle.ranges.proofs.Numbers.{never, and-left, and-right}
+use Rattle.text.specs.Cells.{cellOf, isNumber, readable, valueOf}
+use Rattle.text.specs.Rows.{allNumbers, numbersOf, oneMore, manyMore, stillGood, keptAs, Reading, readCell, readCells}
+use Rattle.text.specs.declared.cell.Cell.{Cell}
+use Rattle.text.specs.declared.cell.Cell.the-variants.{Empty, Number, Bad}
+use Rattle.text.proofs.Rows.{more-few, more-many, kept-length}
+
+-- ---- a cell that is a number
+pub number-is : (c : List ℕ) → isNumber (cellOf c) ≡ true → cellOf c ≡ Number (valueOf c)
+number-is [] e = never (cc)
+number-is (b ∷ bs) e = go (readable (b ∷ bs)) e
+  where
+    go : (t : Bool) → isNumber (pick t (Number (valueOf (b ∷ bs))) Bad) ≡ true → pick t (Number (valueOf (b ∷ bs))) Bad ≡ Number (valueOf (b ∷ bs))
+    go true e' = refl
+    go false e' = never (cc)
+
+-- ---- whether all are numbers
+still : (cell : Cell) (g t : Bool) → stillGood cell g and t ≡ g and isNumber cell and t
+still Empty true t = refl
+still Empty false t = refl
+still (Number v) g t = refl
+still Bad true t = refl
+still Bad false t = refl
+
+pub cells-good : (from : ℕ) (s : Reading) (cs : List (List ℕ)) → readCells from s cs .row .good ≡ s .row .good and allNumbers cs
+cells-good from s [] = go (s .row .good)
+  where
+    go : (g : Bool) → g ≡ g and true
+    go true = refl
+    go false = refl
+cells-good from s (c ∷ cs) = cells-good from (readCell from s c) cs ∙ still (cellOf c) (s .row .good) (allNumbers cs)
+
+-- ---- how many they are
+pub cells-count : (from : ℕ) (s : Reading) (cs : List (List ℕ)) → readCells from s cs .row .cells ≡ manyMore (s .row .cells) cs
+cells-count from s [] = refl
+cells-count from s (c ∷ cs) = cells-count from (readCell from s c) cs
+
+pub many-few : (cs : List (List ℕ)) (k : ℕ) → k + length cs ≤ 65536 → manyMore k cs ≡ k + length cs
+many-few [] k few = omega arith
+many-few (c ∷ cs) k few =
+    let one : oneMore k ≡ k + 1 = more-few k (omega arith) in
+    ap (λ j. manyMore j cs) one ∙ many-few cs (k + 1) (omega arith) ∙ omega arith
+
+-- one more stays within, and changes even and odd
+record Stepped (k j : ℕ) : Type 0 where
+  pub within : j ≤ 65536
+  pub parity : j % 2 ≡ (k + 1) % 2
+
+stepped : (k : ℕ) → k ≤ 65536 → Stepped k (oneMore k)
+stepped k le = go (ltb k 65536) refl
+  where
+    go : (t : Bool) → ltb k 65536 ≡ t → Stepped k (oneMore k)
+    go true e =
+        let lt = ltb-true k 65536 e in
+        let one : oneMore k ≡ k + 1 = more-few k lt in
+        record { within = omega arith; parity = ap (λ j. j % 2) one }
+    go false e =
+        let over = ltb-false k 65536 e in
+        let one : oneMore k ≡ k - 1 = more-many k over in
+        record { within = omega arith; parity = omega arith }
+
+pub many-large : (cs : List (List ℕ)) (k : ℕ) → k ≤ 65536 → 65535 ≤ k + length cs → 65535 ≤ manyMore k cs
+many-large [] k le large = omega arith
+many-large (c ∷ cs) k le large = many-large cs (oneMore k) (stepped k le .within) (go (ltb k 65536) refl)
+  where
+    go : (t : Bool) → ltb k 65536 ≡ t → 65535 ≤ oneMore k + length cs
+    go true e = let lt = ltb-true k 65536 e in let one : oneMore k ≡ k + 1 = more-few k lt in omega arith
+    go false e = let over = ltb-false k 65536 e in let one : oneMore k ≡ k - 1 = more-many k over in omega arith
+
+pub many-parity : (cs : List (List ℕ)) (k : ℕ) → k ≤ 65536 → manyMore k cs % 2 ≡ (k + length cs) % 2
+many-parity [] k le = let same : k + 0 ≡ k = omega arith in ap (λ j. j % 2) (sym same)
+many-parity (c ∷ cs) k le =
+    let s = stepped k le in
+    let rest = many-parity cs (oneMore k) (s .within) in
+    let parity = s .parity in
+    rest ∙ omega arith
+
+-- ---- where their numbers stand
+pub cells-run : (cs : List (List ℕ)) (from : ℕ) (s : Reading) → allNumbers cs ≡ true → s .row .cells + length cs ≤ 65536
+    → readCells from s cs .run ≡ sets (s .run) (from + s .row .cells) (numbersOf cs)
+cells-run [] from s all few = refl
+cells-run (c ∷ cs) from s all few =
+    let first = number-is c (and-left (isNumber (cellOf c)) (allNumbers cs) all) in
+    let rest = and-right (isNumber (cellOf c)) (allNumbers cs) all in
+    let one : oneMore (s .row .cells) ≡ s .row .cells + 1 = more-few (s .row .cells) (omega arith) in
+    let place : from + oneMore (s .row .cells) ≡ suc (from + s .row .cells) = omega arith in
+    cells-run cs from (readCell from s c) rest (omega arith)
+    ∙ ap (λ cell. sets (keptAs cell (from + s .row .cells) (s .run)) (from + oneMore (s .row .cells)) (numbersOf cs)) first
+    ∙ ap (λ j. sets (set (s .run) (from + s .row .cells) (valueOf c)) j (numbersOf cs)) place
+
+-- the run keeps its length
+pub cells-long : (cs : List (List ℕ)) (from : ℕ) (s : Reading) → length (readCells from s cs .run) ≡ length (s .run)
+cells-long [] from s = refl
+cells-long (c ∷ cs) from s = cells-long cs from (readCell from s c) ∙ kept-length (cellOf c) (from + s .row .cells) (s .run)
