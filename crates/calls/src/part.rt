@@ -94,7 +94,7 @@ pub fn table_ends(given: &[u32], more: usize) -> Ends
 }
 
 // Writes numbers of 16 bits to a table of as many.
-pub fn narrow(numbers: &[u32], table: &mut [u16])
+pub(crate) fn narrow(numbers: &[u32], table: &mut [u16])
     requires { ⌜ length (now table) ≡ length (now numbers) ⌝ }
     requires { ⌜ allNarrow (now numbers) ≡ true ⌝ }
     ensures { λ r. ⌜ now (table .exit) ≡ now (numbers .entry) ⌝ }
@@ -107,7 +107,7 @@ pub fn narrow(numbers: &[u32], table: &mut [u16])
 }
 
 // Gives the shape of D.
-pub fn shape_in(given: &[u32]) -> Shape
+pub(crate) fn shape_in(given: &[u32]) -> Shape
     requires { ⌜ 0 < length (now given) ⌝ }
     ensures { λ r. ⌜ r ≡ shapeIn (now (given .entry)) ⌝ }
 {
@@ -117,7 +117,7 @@ pub fn shape_in(given: &[u32]) -> Shape
 }
 
 // Gives the eight numbers of HEADER by value.
-pub fn header_of(eight: &[u32]) -> [u32; 8]
+pub(crate) fn header_of(eight: &[u32]) -> [u32; 8]
     requires { ⌜ length (now eight) ≡ 8 ⌝ }
     ensures { λ r. ⌜ r ≡ now (eight .entry) ⌝ }
 {

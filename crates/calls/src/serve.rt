@@ -149,7 +149,7 @@ fn serve_last(line: Line, name: &[u8], numbers: &mut [u32], out: &mut [u8]) {
 
 // Serves standard input to its end. A proved loop has to end, and nothing says that the input does: so it counts its
 // turns down, from a number that no run uses up.
-pub fn serve_all(bytes: &mut [u8], name: &mut [u8], numbers: &mut [u32], out: &mut [u8]) {
+pub(crate) fn serve_all(bytes: &mut [u8], name: &mut [u8], numbers: &mut [u32], out: &mut [u8]) {
     let mut line = line_start();
     let mut turns = u64::MAX;
     while turns > 0 {

@@ -202,7 +202,7 @@ fn headers_step(
 
 // Reads a piece of the file, cut anywhere, as long as there is room for another line of output: of some bytes at least
 // one.
-pub fn headers_feed(
+pub(crate) fn headers_feed(
     file: HeadersFile,
     bytes: &[u8],
     shape: Shape,
@@ -266,7 +266,7 @@ fn headers_last(
 }
 
 // Ends the file: puts the answer of a last line that no CRLF ends.
-pub fn headers_finish(
+pub(crate) fn headers_finish(
     file: HeadersFile,
     shape: Shape,
     list: &[u32],

@@ -51,7 +51,7 @@ pub fn verdict(rules: Rules, list: &[u32]) -> u32
 }
 
 // Builds the table of a list that stands at the front of a run that is long enough, and gives its length.
-pub fn make_table(shape: Shape, list: &[u32], table: &mut [u16]) -> usize
+pub(crate) fn make_table(shape: Shape, list: &[u32], table: &mut [u16]) -> usize
     requires { ⌜ listFault (listed shape (now list)) .number ≡ 0 ⌝ }
     requires { ⌜ 18436 ≤ length (now table) ⌝ }
     ensures { λ r. ⌜ TableMade (listed shape (now (list .entry))) r (now (table .exit)) ⌝ }

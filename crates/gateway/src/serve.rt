@@ -308,7 +308,7 @@ fn answer_all(
 }
 
 // Does 01's job on two files: prints the rules' fault, or the answer to each header.
-pub fn serve_files(
+pub(crate) fn serve_files(
     rules_path: &[u8],
     headers_path: &[u8],
     bytes: &mut [u8],
