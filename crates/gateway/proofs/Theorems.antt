@@ -26,7 +26,7 @@ use Rattle.lists.specs.Rules.{Rules, fieldsOf}
 use Rattle.lists.specs.Faults.{listFault}
 use Rattle.lists.specs.FirstMatch.{firstMatch}
 use Rattle.sorting.specs.Table.{builtTable}
-use Rattle.sorting.proofs.Sound.{list-shaped}
+use Rattle.lists.proofs.Sound.{list-shaped}
 use Rattle.lookup.specs.Lookup.{lookupOf, answerOf, testsIn}
 use Rattle.lookup.proofs.Theorems.{build-then-lookup}
 use Rattle.text.specs.Cells.{fed}

@@ -5,12 +5,9 @@
 use Prim.Native.Nat.{ℕ}
 use mathlib.Core.List.{List}
 use mathlib.Core.Path.{_≡_, sym, _∙_}
-use borrow.Fn.Kinds.{PK, RK, Dens, resT, endedOf, Out}
-use contract.Lifetimes.{Lfts}
 use denote.Ref.{now}
-use denote.Triple.Clauses.{AtExit}
 use Rattle.ranges.specs.Refusals.{Said}
-use Rattle.ranges.proofs.OneAnswer.{OneAnswer}
+use Rattle.ranges.proofs.OneAnswer.{OneAnswer, OneRun}
 use Rattle.interface.specs.Answers.{Told}
 use Rattle.interface.proofs.list.cuy_check.Kinds as check-kinds
 use Rattle.interface.proofs.list.cuy_check.Reads as check
@@ -30,12 +27,6 @@ use Rattle.interface.proofs.prefix.cuy_prefix_to_range.Kinds as prefix-
 use Rattle.interface.proofs.prefix.cuy_prefix_to_range.Reads as prefix-to-range
 use Rattle.interface.proofs.prefix.cuy_range_to_prefixes.Kinds as range-to-prefixes-kinds
 use Rattle.interface.proofs.prefix.cuy_range_to_prefixes.Reads as range-to-prefixes
-
--- any two runs that `Says`, a function's `ensures` as its callers learn it, allows it to leave are equal; `run` finds the run among the
--- parameters at exit
-abbrev OneRun : (n : ℕ) (ps : List (PK n)) (r : RK n) → Out n ps r → ((κs : Lfts n) → AtExit (endedOf n ps r) κs → List ℕ) → Type 0
-OneRun n ps r Says run =
-    (κs : Lfts n) (a : Dens κs ps) (x y : resT r κs .Denot) (e g : AtExit (endedOf n ps r) κs) → Says κs a x e → Says κs a y g → run κs e ≡ run κs g
 
 module _ {k : ℕ} {s : Said} {r r′ : ℕ} {run run′ : List ℕ} (p : Told k s r run) (q : Told k s r′ run′) where
   returned-one : r ≡ r′

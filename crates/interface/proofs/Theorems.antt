@@ -19,7 +19,7 @@ use borrow.Author.Tests.{eqb-false}
 use lib.ListN.{length}
 use Rattle.ranges.specs.Numbers.{pick}
 use Rattle.ranges.specs.Refusals.{stands, saysCount, countUnless}
-use Rattle.ranges.specs.Prefixes.{prefixFault, highOf, boundsOf, saysBounds}
+use Rattle.ranges.specs.Prefixes.{prefixFault, lastOf, boundsOf, saysBounds}
 use Rattle.ranges.specs.Blocks.{prefixesOf, expandFault, expandOf}
 use Rattle.ranges.specs.declared.refusal.Refusal.{Refusal}
 use Rattle.ranges.specs.declared.refusal.Count.the-variants as count
@@ -73,7 +73,7 @@ prefixes-told w low high run = count-back (expandOf w low high run) (counted (ex
 pub range-told : (w value len : ℕ) → boundsIn (numbersOf 2 (saysBounds (boundsOf w value len))) ≡ boundsOf w value len
 range-told w value len =
     let fault = prefixFault w value len in
-    bounds-back (boundsOf w value len) (unless BoundsRefuse fault (bounds.Are value (highOf w value len)) (bounds.Refused fault) tt (λ r. r))
+    bounds-back (boundsOf w value len) (unless BoundsRefuse fault (bounds.Are value (lastOf w value len)) (bounds.Refused fault) tt (λ r. r))
 
 pub scan-told : (R : Rules) (h : List ℕ) → matchIn (numbersOf 2 (saysMatch (scanOf R h))) ≡ scanOf R h
 scan-told R h =

@@ -13,14 +13,13 @@ use lib.ListN.{length, getD}
 use borrow.Author.Tests.{lt-ltb, le-ltb}
 use Rattle.ranges.specs.Sides.{sideOf, isInside}
 use Rattle.ranges.specs.declared.side.Side.{Side}
-use Rattle.ranges.proofs.Numbers.{all-yes, all-at}
+use Rattle.ranges.proofs.Numbers.{all-yes, all-at, all-same, least-same}
 use Rattle.ranges.proofs.Sides.{inside-yes, inside-at}
 use Rattle.lists.specs.Rules.{Rules, fieldsOf, rulesIn, cellOf, lowOf, highOf, endsAt}
 use Rattle.lists.specs.FirstMatch.{sideAt, insideAt, fits, firstMatch}
 use Rattle.lists.specs.Scan.{fitsIn, matchOf}
 use Rattle.lists.specs.declared.scan.Match.the-variants.{Rule, Nothing}
 use Rattle.lists.proofs.Rules.{low-read, high-read, rule-within, rule-past}
-use Rattle.lists.proofs.Search.{all-same, least-same}
 
 -- the outcome of the test, where a callee said where the rule's low stands
 module _ (R : Rules) (h : List ℕ) (i f at : ℕ) (is-cell : at ≡ cellOf (fieldsOf R) i f) where

@@ -3,6 +3,7 @@
 -- Rules: where a rule's numbers stand, and what a list of the right shape is.
 -- Faults: which refusal of 1 to 4 a list meets.
 -- Voids: of the refusal 4, low > high in a field, in a rule, in a list.
+-- Sound: what a list is that meets none of 1 to 4.
 -- Fitting: of what fits a header.
 -- Meeting: of rules that one header can fit.
 -- Answers: what an answer says tells it apart from every other.
@@ -12,6 +13,7 @@ pub mod Search
 pub mod Rules
 pub mod Faults
 pub mod Voids
+pub mod Sound
 pub mod Fitting
 pub mod Meeting
 pub mod Answers

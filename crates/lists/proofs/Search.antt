@@ -4,8 +4,6 @@
 --     told-none, told-more      where the loop begins, and after a turn
 --     told-all, told-not        of t = true: all pass; one does not
 --     told-least, told-end      of t = false: the least that passes; there is none
--- And two tests that answer alike below n:
---     all-same, least-same      all pass alike, and the least is the same
 -- Assumes nothing.
 use Prim.Native.Nat.{ℕ, zero, suc, _+_, _≤_, _<_}
 use mathlib.Core.Bool.{Bool, true, false}
@@ -38,15 +36,3 @@ module _ {P : ℕ → Bool} {n j : ℕ} where
 
   pub told-end : Told P false n j → n ≤ j → n ≡ least n P
   told-end told past = sym (least-none P n (λ k lt. told .below k (omega arith)))
-
--- ---- two tests that answer alike
-module _ (P Q : ℕ → Bool) where
-  pub all-same : (n : ℕ) → ((k : ℕ) → k < n → P k ≡ Q k) → all n P ≡ all n Q
-  unfolding all
-  all-same zero same = refl
-  all-same (suc n) same = rw (all-same n (λ k lt. same k (omega arith)), same n (omega arith))
-
-  pub least-same : (n : ℕ) → ((k : ℕ) → k < n → P k ≡ Q k) → least n P ≡ least n Q
-  unfolding least
-  least-same zero same = refl
-  least-same (suc n) same = rw (least-same n (λ k lt. same k (omega arith)), same n (omega arith))

@@ -35,41 +35,23 @@ use Rattle.lists.specs.Scan.{fitsIn, matchOf, scanOf}
 use Rattle.lists.specs.Independence.{meet, partners, partnerOf, hasPartner, paired, pairOf, independenceOf}
 use Rattle.lists.specs.declared.scan.Match.the-variants.{Rule, Nothing, Refused as MatchRefused}
 use Rattle.lists.specs.declared.independence.Pair.the-variants.{Independent, Both, Refused as PairRefused}
-use Rattle.lists.proofs.Search.{Told}
-use Rattle.lists.proofs.Faults.{shape-stands, shaped, shape-few, shape-of, ends-of}
-use Rattle.lists.proofs.Voids.{bad, bad-field, ends-4, ends-stands, SoundRule, not-bad, sound-not-bad, ends-sound}
+use Rattle.lists.proofs.Faults.{shaped, shape-few}
+use Rattle.lists.proofs.Voids.{bad, bad-field, ends-4, SoundRule, not-bad}
+use Rattle.lists.proofs.Sound.{Accepted, list-accepted, accepted-none, shaped-none, told-sound}
 use Rattle.lists.proofs.Fitting.{Inside, fits-inside, inside-fits, fits-same, first-same}
 use Rattle.lists.proofs.Meeting.{sharedHeader, max-lt, fits-meet, meet-fits, partner-meets, partner-past, paired-past}
 use Rattle.lists.proofs.Answers.{picked, not-picked}
 
--- ---- none of 1 to 4 applies: d is 1 to 8, the length is n * d * 2, n is at most 1,024, and low ≤ high everywhere
-pub record Sound (R : Rules) : Type 0 where
-  pub shape : Shaped R
-  pub ranges : (i : ℕ) → i < rulesIn R → SoundRule R i
-
-stands-sound : (R : Rules) → stands (listFault R) ≡ true → Sound R
-stands-sound R e =
-    let z = eqb-true (listFault R .number) 0 e in
-    record { shape = shaped R (shape-of R z); ranges = ends-sound R (ends-of R z) }
-
--- no rule below i has a void range
-told-sound : (R : Rules) (i : ℕ) → i ≤ rulesIn R → ((k : ℕ) → k < i → SoundRule R k) → Told (bad R) false (rulesIn R) i
-told-sound R i le sound = record { within = le; below = λ k lt. sound-not-bad R k (sound k lt) }
-
-shaped-none : (R : Rules) → Shaped R → shapeFault R ≡ none
-shaped-none R s = shape-stands R (s .some-fields) (s .few-fields) (sym (s .whole)) (s .few-rules)
-
-sound-none : (R : Rules) → Sound R → listFault R ≡ none
-sound-none R s =
-    let ends = ends-stands R (rulesIn R) (told-sound R (rulesIn R) (omega arith) (s .ranges)) (omega arith) in
-    rw (shaped-none R (s .shape)) (sym ends)
+-- the answer was picked because nothing is refused
+stands-accepted : (R : Rules) → stands (listFault R) ≡ true → Accepted R
+stands-accepted R e = list-accepted R (eqb-true (listFault R .number) 0 e)
 
 -- ---- T6
 -- a check answers n exactly when none of 1 to 4 applies: it refuses nothing else, and lets none of them pass
-pub check-is-n-iff : (R : Rules) → (checkOf R ≡ Is (rulesIn R)) ↔ Sound R
+pub check-is-n-iff : (R : Rules) → (checkOf R ≡ Is (rulesIn R)) ↔ Accepted R
 check-is-n-iff R = (
-  λ e. stands-sound R (picked (Is (rulesIn R)) (CountRefused (listFault R)) (Is (rulesIn R)) (stands (listFault R)) e (λ r. never (cc)) .0),
-  λ s. rw (sound-none R s),
+  λ e. stands-accepted R (picked (Is (rulesIn R)) (CountRefused (listFault R)) (Is (rulesIn R)) (stands (listFault R)) e (λ r. never (cc)) .0),
+  λ s. rw (accepted-none R s),
 )
 
 -- the place of refusal 4: low > high in field f of rule i, and in no rule before it, nor in a field before it
@@ -160,18 +142,18 @@ first-one R h i first = least-is (fits R h) (rulesIn R) i (first .rule) (first .
 
 module _ (R : Rules) (h : List ℕ) where
   -- a rule returned fits and none before it does; and the first rule that fits is returned
-  pub scan-rule-iff : (i : ℕ) → (scanOf R h ≡ Rule i) ↔ (Sound R × First R h i)
+  pub scan-rule-iff : (i : ℕ) → (scanOf R h ≡ Rule i) ↔ (Accepted R × First R h i)
   scan-rule-iff i = (
     λ e.
         let told = picked (matchOf R h) (MatchRefused (listFault R)) (Rule i) (stands (listFault R)) e (λ r. never (cc)) in
         let found = picked (Rule (firstMatch R h)) Nothing (Rule i) (ltb (firstMatch R h) (rulesIn R)) (told .1) (λ r. never (cc)) in
         let is-i : firstMatch R h ≡ i = cc (found .1) in
-        (stands-sound R (told .0), rw is-i at (first-here R h (ltb-true (firstMatch R h) (rulesIn R) (found .0)))),
-    λ p. rw (sound-none R (p .0), first-one R h i (p .1), lt-ltb i (rulesIn R) (p .1 .rule)),
+        (stands-accepted R (told .0), rw is-i at (first-here R h (ltb-true (firstMatch R h) (rulesIn R) (found .0)))),
+    λ p. rw (accepted-none R (p .0), first-one R h i (p .1), lt-ltb i (rulesIn R) (p .1 .rule)),
   )
 
   -- none is returned exactly where no rule fits
-  pub scan-nothing-iff : (scanOf R h ≡ Nothing) ↔ (Sound R × ((k : ℕ) → k < rulesIn R → fits R h k ≡ false))
+  pub scan-nothing-iff : (scanOf R h ≡ Nothing) ↔ (Accepted R × ((k : ℕ) → k < rulesIn R → fits R h k ≡ false))
   unfolding firstMatch
   scan-nothing-iff =
       let n = rulesIn R in (
@@ -179,8 +161,8 @@ module _ (R : Rules) (h : List ℕ) where
             let told = picked (matchOf R h) (MatchRefused (listFault R)) Nothing (stands (listFault R)) e (λ r. never (cc)) in
             let past = not-picked (Rule (firstMatch R h)) Nothing Nothing (ltb (firstMatch R h) n) (told .1) (λ r. never (cc)) .0 in
             let over = ltb-false (least n (fits R h)) n past in
-            (stands-sound R (told .0), λ k lt. least-under (fits R h) n k (omega arith)),
-        λ p. rw (sound-none R (p .0), least-none (fits R h) n (p .1), le-ltb n n (omega arith)),
+            (stands-accepted R (told .0), λ k lt. least-under (fits R h) n k (omega arith)),
+        λ p. rw (accepted-none R (p .0), least-none (fits R h) n (p .1), le-ltb n n (omega arith)),
       )
 
 -- rule i is one of the list, and low ≤ number ≤ high in all d fields
@@ -233,35 +215,36 @@ Apart R i j = (h : List ℕ) → fits R h i ≡ true → fits R h j ≡ true →
 not-met-apart : (R : Rules) (i j : ℕ) → meet R i j ≡ false → Apart R i j
 not-met-apart R i j not-met h fits-i fits-j = true-not-false (fits-meet R i j h fits-i fits-j) not-met
 
-shared-fits : (R : Rules) → Sound R → (i j : ℕ) → i < rulesIn R → j < rulesIn R → meet R i j ≡ true
+shared-fits : (R : Rules) → Accepted R → (i j : ℕ) → i < rulesIn R → j < rulesIn R → meet R i j ≡ true
     → (fits R (sharedHeader R i j) i ≡ true) × (fits R (sharedHeader R i j) j ≡ true)
-shared-fits R s i j i-rule j-rule met = meet-fits R i j (s .shape .few-fields) (s .ranges i i-rule) (s .ranges j j-rule) met
+shared-fits R s i j i-rule j-rule met = meet-fits R i j (s .shape .few-fields) (λ f. s .ranges .ends i f i-rule) (λ f. s .ranges .ends j f j-rule) met
 
-apart-not-met : (R : Rules) → Sound R → (i j : ℕ) → i < rulesIn R → j < rulesIn R → Apart R i j → meet R i j ≡ false
+apart-not-met : (R : Rules) → Accepted R → (i j : ℕ) → i < rulesIn R → j < rulesIn R → Apart R i j → meet R i j ≡ false
 apart-not-met R s i j i-rule j-rule apart = go (meet R i j) refl
   where
     go : (t : Bool) → meet R i j ≡ t → meet R i j ≡ false
     go true met = let both = shared-fits R s i j i-rule j-rule met in absurd (apart (sharedHeader R i j) (both .0) (both .1))
     go false not-met = not-met
 
--- a rule that is apart from every later one has no partner
-no-partner-of : (R : Rules) → Sound R → (i : ℕ) → i < rulesIn R → ((l : ℕ) → i < l → l < rulesIn R → Apart R i l) → hasPartner R i ≡ false
+-- a rule l that is apart from rule i, if it comes later, is no partner of it
+apart-no-partner : (R : Rules) → Accepted R → (i l : ℕ) → i < rulesIn R → l < rulesIn R → (i < l → Apart R i l) → partners R i l ≡ false
+apart-no-partner R s i l i-rule l-rule apart = go (ltb i l) refl
+  where
+    go : (t : Bool) → ltb i l ≡ t → t and meet R i l ≡ false
+    go true e = apart-not-met R s i l i-rule l-rule (apart (ltb-true i l e))
+    go false e = refl
+
+-- a rule that is apart from every later one has none
+no-partner-of : (R : Rules) → Accepted R → (i : ℕ) → i < rulesIn R → ((l : ℕ) → i < l → l < rulesIn R → Apart R i l) → hasPartner R i ≡ false
 unfolding partnerOf
 no-partner-of R s i rule apart =
     let n = rulesIn R in
-    let none-is = least-none (partners R i) n (λ l lt. not-partners l lt) in
+    let none-is = least-none (partners R i) n (λ l lt. apart-no-partner R s i l rule lt (λ later. apart l later lt)) in
     le-ltb (least n (partners R i)) n (omega arith)
-  where
-    not-partners : (l : ℕ) → l < rulesIn R → partners R i l ≡ false
-    not-partners l lt = go (ltb i l) refl
-      where
-        go : (t : Bool) → ltb i l ≡ t → t and meet R i l ≡ false
-        go true e = apart-not-met R s i l rule lt (apart l (ltb-true i l e) lt)
-        go false e = refl
 
 -- "yes" excludes every header, and is answered wherever every header is excluded
 pub independent-iff : (R : Rules)
-    → (independenceOf R ≡ Independent) ↔ (Sound R × ((i j : ℕ) → i < j → j < rulesIn R → Apart R i j))
+    → (independenceOf R ≡ Independent) ↔ (Accepted R × ((i j : ℕ) → i < j → j < rulesIn R → Apart R i j))
 unfolding paired
 independent-iff R =
     let n = rulesIn R in (
@@ -269,22 +252,22 @@ independent-iff R =
           let told = picked (pairOf R) (PairRefused (listFault R)) Independent (stands (listFault R)) e (λ r. never (cc)) in
           let past = not-picked (Both (paired R) (partnerOf R (paired R))) Independent Independent (ltb (paired R) n) (told .1) (λ r. never (cc)) .0 in
           let over = ltb-false (paired R) n past in
-          (stands-sound R (told .0), λ i j after lt. not-met-apart R i j (paired-past R i j (omega arith) after lt)),
+          (stands-accepted R (told .0), λ i j after lt. not-met-apart R i j (paired-past R i j (omega arith) after lt)),
       λ p.
           let alone = least-none (hasPartner R) n (λ i lt. no-partner-of R (p .0) i lt (p .1 i)) in
-          rw (sound-none R (p .0), alone, le-ltb n n (omega arith)),
+          rw (accepted-none R (p .0), alone, le-ltb n n (omega arith)),
     )
 
 -- rules i < j, the smallest i and then the smallest j that some header fits
 pub record LeastPair (R : Rules) (i j : ℕ) : Type 0 where
-  pub sound : Sound R
+  pub accepted : Accepted R
   pub after : i < j
   pub rule : j < rulesIn R
   pub both : (h : List ℕ) × (fits R h i ≡ true) × (fits R h j ≡ true)
   pub rules-before : (k l : ℕ) → k < i → k < l → l < rulesIn R → Apart R k l
   pub partners-before : (l : ℕ) → i < l → l < j → Apart R i l
 
-pair-here : (R : Rules) → Sound R → paired R < rulesIn R → LeastPair R (paired R) (partnerOf R (paired R))
+pair-here : (R : Rules) → Accepted R → paired R < rulesIn R → LeastPair R (paired R) (partnerOf R (paired R))
 unfolding paired
 pair-here R s lt =
     let n = rulesIn R in
@@ -294,7 +277,7 @@ pair-here R s lt =
     let meets = partner-meets R i has in
     let fit = shared-fits R s i j lt has (meets .1) in
     record {
-      sound = s;
+      accepted = s;
       after = meets .0;
       rule = has;
       both = (sharedHeader R i j, fit .0, fit .1);
@@ -308,21 +291,13 @@ pair-one R i j p =
     let n = rulesIn R in
     let i-rule : i < n = omega (arith, p .after, p .rule) in
     let met = fits-meet R i j (p .both .0) (p .both .1) (p .both .2) in
-    let partner = least-is (partners R i) n j (p .rule) (rw (lt-ltb i j (p .after)) met) (λ l lt. not-before l lt) in
+    let not-before : (l : ℕ) → l < j → partners R i l ≡ false =
+    λ l under. apart-no-partner R (p .accepted) i l i-rule (omega (arith, p .rule)) (λ later. p .partners-before l later under) in
+    let partner = least-is (partners R i) n j (p .rule) (rw (lt-ltb i j (p .after)) met) not-before in
     let has : hasPartner R i ≡ true = rw partner (lt-ltb j n (p .rule)) in (
       partner,
-      least-is (hasPartner R) n i i-rule has (λ k lt. no-partner-of R (p .sound) k (omega arith) (λ l later rule. p .rules-before k l lt later rule)),
+      least-is (hasPartner R) n i i-rule has (λ k lt. no-partner-of R (p .accepted) k (omega arith) (λ l later rule. p .rules-before k l lt later rule)),
     )
-  where
-    not-before : (l : ℕ) → l < j → partners R i l ≡ false
-    not-before l lt = go (ltb i l) refl
-      where
-        go : (t : Bool) → ltb i l ≡ t → t and meet R i l ≡ false
-        go true e =
-            let after = ltb-true i l e in
-            let rule : l < rulesIn R = omega (arith, p .rule) in
-            apart-not-met R (p .sound) i l (omega arith) rule (p .partners-before l after lt)
-        go false e = refl
 
 -- the pair named is fitted by one header and no pair before it is; and such a pair is named
 pub pair-iff : (R : Rules) (i j : ℕ) → (independenceOf R ≡ Both i j) ↔ LeastPair R i j
@@ -332,11 +307,11 @@ pair-iff R i j = (
       let found = picked (Both (paired R) (partnerOf R (paired R))) Independent (Both i j) (ltb (paired R) (rulesIn R)) (told .1) (λ r. never (cc)) in
       let is-i : paired R ≡ i = cc (found .1) in
       let is-j : partnerOf R (paired R) ≡ j = cc (found .1) in
-      moved (paired R) (partnerOf R (paired R)) is-i is-j (pair-here R (stands-sound R (told .0)) (ltb-true (paired R) (rulesIn R) (found .0))),
+      moved (paired R) (partnerOf R (paired R)) is-i is-j (pair-here R (stands-accepted R (told .0)) (ltb-true (paired R) (rulesIn R) (found .0))),
   λ p.
       let one = pair-one R i j p in
       let i-rule : i < rulesIn R = omega (arith, p .after, p .rule) in
-      rw (sound-none R (p .sound), one .1, one .0, lt-ltb i (rulesIn R) i-rule),
+      rw (accepted-none R (p .accepted), one .1, one .0, lt-ltb i (rulesIn R) i-rule),
 )
   where
     moved : (k l : ℕ) → k ≡ i → l ≡ j → LeastPair R k l → LeastPair R i j
@@ -355,7 +330,7 @@ pair-header R i j e =
     let p = pair-iff R i j .0 e in
     let i-rule : i < rulesIn R = omega (arith, p .after, p .rule) in
     let met = fits-meet R i j (p .both .0) (p .both .1) (p .both .2) in
-    let fit = shared-fits R (p .sound) i j i-rule (p .rule) met in
+    let fit = shared-fits R (p .accepted) i j i-rule (p .rule) met in
     let low : ℕ → ℕ = λ f. max (lowOf R i f) (lowOf R j f) in
     record {
       eight = tab-length low 8;

@@ -2,7 +2,7 @@
 --     void-read            the code's test of a range
 --     bad-yes, bad-no      a rule with such a field, and one without; `bad-field`: it then has a smallest
 --     ends-4, ends-stands  the refusal, at the rule and field where the search for it ends, and none
---     ends-sound           a list that is not so refused has a number in every range
+--     not-bad, sound-not-bad      a rule without such a field holds a number in every range, and the other way round
 -- Assumes nothing.
 use Prim.Native.Nat.{ℕ, _+_, _≤_, _<_}
 use mathlib.Core.Bool.{Bool, true, false, not}
@@ -87,15 +87,3 @@ not-bad R i e f lt =
 pub sound-not-bad : (R : Rules) (i : ℕ) → SoundRule R i → bad R i ≡ false
 sound-not-bad R i sound =
     ap not (all-yes (λ f. not (isVoid R i f)) (fieldsOf R) (λ f lt. ap not (lt-leb (endsAt R i f) (lowOf R i f) (sound f lt))))
-
-pub ends-sound : (R : Rules) → endsFault R .number ≡ 0 → (i : ℕ) → i < rulesIn R → SoundRule R i
-unfolding endsFault badRule
-ends-sound R = go (ltb (least (rulesIn R) (bad R)) (rulesIn R)) refl
-  where
-    go : (t : Bool) → ltb (least (rulesIn R) (bad R)) (rulesIn R) ≡ t
-        → (pick t (refusedAt LowAboveHigh (least (rulesIn R) (bad R)) (least (fieldsOf R) (isVoid R (least (rulesIn R) (bad R))))) none) .number ≡ 0
-        → (i : ℕ) → i < rulesIn R → SoundRule R i
-    go true e z i lt = absurd (omega arith)
-    go false e z i lt =
-        let past = ltb-false (least (rulesIn R) (bad R)) (rulesIn R) e in
-        not-bad R i (least-under (bad R) (rulesIn R) i (omega arith))

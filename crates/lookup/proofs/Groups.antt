@@ -32,7 +32,7 @@ use Rattle.sorting.specs.Layout.{View}
 use Rattle.sorting.specs.Order.{compare, isAlike}
 use Rattle.sorting.specs.Promise.{InPart, Run, Promise}
 use Rattle.sorting.specs.declared.order.Standing.the-variants.{Alike}
-use Rattle.sorting.proofs.Sound.{Sound}
+use Rattle.lists.proofs.Sound.{Sound}
 use Rattle.sorting.proofs.Standings.{compare-none, alike-is, alike-refl, alike-sym, alike-trans, alike-fewer, alike-fields, Under, before-at, convex}
 use Rattle.lookup.specs.Walk.{midOf, leaves, stepAt, walkFrom}
 use Rattle.lookup.specs.declared.walk.Found.{Found}

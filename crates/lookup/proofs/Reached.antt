@@ -34,7 +34,7 @@ use Rattle.sorting.specs.FirstFit.{partOf, firstFit}
 use Rattle.sorting.specs.Promise.{InPart, Promise}
 use Rattle.sorting.specs.declared.order.Standing.the-variants.{Alike}
 use Rattle.sorting.specs.Table.{builtTable}
-use Rattle.sorting.proofs.Sound.{Sound}
+use Rattle.lists.proofs.Sound.{Sound, sound-ends}
 use Rattle.sorting.proofs.Standings.{compare-none, alike-is, alike-fields, before-is, before-at, under-before}
 use Rattle.sorting.proofs.Parts.{parts-over, parts-least}
 use Rattle.sorting.proofs.FirstFits.{free-yes, fit-is, first-fit-at}
@@ -89,17 +89,6 @@ module _ (d m : ℕ) (some : 1 ≤ d) where
             within-high (highOf (ladder d m) i f) (lowOf (ladder d m) i f) (omega arith);
       }
 
--- a list with low ≤ high everywhere does not meet 4
-sound-stands : (R : Rules) → Sound R → endsFault R ≡ none
-unfolding endsFault badRule
-sound-stands R sound =
-    let n = rulesIn R in
-    let fine : (i : ℕ) → i < n → not (soundRule R i) ≡ false =
-    λ i rule. ap not (all-yes (λ f. not (isVoid R i f)) (fieldsOf R) (λ f in-row. ap not (lt-leb (endsAt R i f) (lowOf R i f) (sound .ends i f rule in-row)))) in
-    let at-n : least n (λ i. not (soundRule R i)) ≡ n = least-none (λ i. not (soundRule R i)) n fine in
-    let over : n ≤ least n (λ i. not (soundRule R i)) = omega arith in
-    rw (le-ltb (least n (λ i. not (soundRule R i))) n over)
-
 module _ (d m : ℕ) (some : 1 ≤ d) (few : d ≤ 8) (few-rules : m ≤ 1024) where
   ladder-shape : shapeFault (ladder d m) ≡ none
   ladder-shape =
@@ -109,7 +98,7 @@ module _ (d m : ℕ) (some : 1 ≤ d) (few : d ≤ 8) (few-rules : m ≤ 1024) w
 
   -- the build accepts it
   pub ladder-stands : listFault (ladder d m) ≡ none
-  ladder-stands = rw ladder-shape (sound-stands (ladder d m) (ladder-sound d m some))
+  ladder-stands = rw ladder-shape (sound-ends (ladder d m) (ladder-sound d m some))
 
 -- ---- its one partition
 module _ (d m : ℕ) (some : 1 ≤ d) where

@@ -45,7 +45,7 @@ use Rattle.sorting.specs.FirstFit.{Choice, firstFit}
 use Rattle.sorting.specs.Opening.{viewOf, openFault}
 use Rattle.sorting.specs.Promise.{Promise}
 use Rattle.sorting.specs.Table.{tableOf, builtTable}
-use Rattle.sorting.proofs.Sound.{list-sound, list-shaped}
+use Rattle.lists.proofs.Sound.{list-sound, list-shaped}
 use Rattle.sorting.proofs.Reading.{table-sized}
 use Rattle.sorting.proofs.Kept.{choice-keeps-promise}
 use Rattle.sorting.proofs.Built.{built-keeps-promise, list-keeps-promise}

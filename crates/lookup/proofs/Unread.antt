@@ -12,9 +12,9 @@ use native.Mathlib.Omega.{arith}
 use lib.ListN.{getD}
 use lib.Dec.{leb}
 use borrow.Author.Tests.{leb-false}
-use Rattle.ranges.specs.Numbers.{pick, all}
+use Rattle.ranges.specs.Numbers.{pick}
 use Rattle.lists.specs.Rules.{Rules, fieldsOf, rulesIn}
-use Rattle.lists.specs.FirstMatch.{insideAt, fits}
+use Rattle.lists.proofs.Fitting.{fits-same}
 use Rattle.sorting.specs.Layout.{View}
 use Rattle.sorting.specs.Opening.{viewOf}
 use Rattle.lookup.specs.Walk.{stepAt, stepOf, afterStep, arrivedOf, walkFrom}
@@ -29,24 +29,14 @@ use Rattle.lookup.specs.declared.walk.Step.the-variants.{On, Fault}
 pub record Agree (d : ℕ) (h h′ : List ℕ) : Type 0 where
   pub same : (f : ℕ) → f < d → getD h f 0 ≡ getD h′ f 0
 
--- two tests that agree below n
-all-same : (P Q : ℕ → Bool) (n : ℕ) → ((k : ℕ) → k < n → P k ≡ Q k) → all n P ≡ all n Q
-unfolding all
-all-same P Q zero h = refl
-all-same P Q (suc n) h = rw (all-same P Q n (λ k l. h k (omega arith)), h n (omega arith))
-
 module _ (R : Rules) (v : View) (h h′ : List ℕ) (agree : Agree (fieldsOf R) h h′) where
-  fits-same : (i : ℕ) → fits R h i ≡ fits R h′ i
-  unfolding fits
-  fits-same i = all-same (insideAt R h i) (insideAt R h′ i) (fieldsOf R) (λ f lt. rw (agree .same f lt))
-
   step-same : (s e f : ℕ) → f < fieldsOf R → stepOf R v h s e f ≡ stepOf R v h′ s e f
   unfolding stepAt
   step-same s e f lt = rw (agree .same f lt)
 
   arrived-same : (s e t : ℕ) → arrivedOf R v h s e t ≡ arrivedOf R v h′ s e t
   unfolding arrivedOf
-  arrived-same s e t = rw (fits-same (v .order s))
+  arrived-same s e t = rw (fits-same R h h′ (agree .same) (v .order s))
 
   walk-same : (k s e f t : ℕ) → walkFrom R v h k s e f t ≡ walkFrom R v h′ k s e f t
   unfolding walkFrom

@@ -1,9 +1,9 @@
--- Laws of the largest aligned block and of the prefixes of a range (`specs/Blocks.antt`).
---     fits-yes, fits-at, fits-fewer        when a block fits; a smaller one then does
---     block-stops                          the block that fits while its double does not is the largest
---     block-fits, block-within             the largest block fits, and is within the width
---     high-few, low-few, size-few, size-some                             what fits a machine's number
+-- Laws of the largest aligned block (`specs/Blocks.antt`).
+--     fits-yes, fits-at, fits-one, fits-fewer        when a block fits; one number does; a smaller block then does
+--     block-stops, block-full              the block that fits while its double does not is the largest; so is the whole width
+--     block-at, block-narrow, block-largest          the largest block fits, lies within the width, and no larger one fits
 --     Grown, grown-start, grown-odd, grown-past, grown-more, grown-full      the search by doubling: its invariant, its ways out, its turn
+--     high-few, low-few, size-few, size-some         what fits a machine's number
 -- Assumes nothing.
 use Prim.Native.Nat.{ℕ, zero, suc, _+_, _-_, _*_, _%_, _^_, _≤_, _<_}
 use mathlib.Core.Bool.{Bool, true, false}
@@ -17,7 +17,7 @@ use borrow.Author.Tests.{eq-eqb, le-leb, eqb-true, leb-true}
 use Rattle.ranges.specs.Numbers.{_and_, greatest}
 use Rattle.ranges.specs.Sides.{endOf}
 use Rattle.ranges.specs.Blocks.{blockFits, blockOf, Ranged}
-use Rattle.ranges.proofs.Numbers.{and-left, and-right, and-both, true-not-false, greatest-is}
+use Rattle.ranges.proofs.Numbers.{and-left, and-right, greatest-is, greatest-holds}
 use Rattle.ranges.proofs.Sides.{past-high, high-within, within-high}
 use Rattle.ranges.proofs.Widths.{masked, aligned-fewer, pow-more}
 
@@ -59,6 +59,24 @@ module _ (low high : ℕ) where
   pub block-full : (w : ℕ) → blockFits low high w ≡ true → blockOf w low high ≡ w
   unfolding blockOf
   block-full w fits = greatest-is (blockFits low high) (suc w) w (omega arith) fits (λ k gt lt. absurd (omega arith))
+
+-- ---- the largest block of a range that is not empty
+module _ (w low high : ℕ) (within : low < endOf high) where
+  holds : (blockFits low high (blockOf w low high) ≡ true) × (0 ≤ blockOf w low high) × (blockOf w low high < suc w)
+  unfolding blockOf
+  holds = greatest-holds (blockFits low high) (suc w) 0 (omega arith) (fits-one low high within)
+
+  -- it is aligned, and stays in the range
+  pub block-at : (low % 2 ^ blockOf w low high ≡ 0) × (low + 2 ^ blockOf w low high ≤ endOf high)
+  block-at = fits-at low high (blockOf w low high) (holds .0)
+
+  pub block-narrow : blockOf w low high ≤ w
+  block-narrow = omega (arith, holds .2)
+
+  -- no larger one does
+  pub block-largest : (t : ℕ) → t ≤ w → blockFits low high t ≡ true → t ≤ blockOf w low high
+  unfolding blockOf
+  block-largest t le fits = greatest-holds (blockFits low high) (suc w) t (omega arith) fits .1
 
 -- ---- the search by doubling
 -- size is 2 ^ t, and the block of that size fits

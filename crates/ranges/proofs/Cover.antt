@@ -20,7 +20,8 @@ use Rattle.ranges.specs.Blocks.{Prefix, Ranged, blockFits, blockOf, pref
 use Rattle.ranges.specs.declared.prefix.Bounds.the-variants.{Are}
 use Rattle.ranges.proofs.Sides.{high-within}
 use Rattle.ranges.proofs.Prefixes.{bounds-are}
-use Rattle.ranges.proofs.Expansion.{firstOf, nextOf, prefixes-done, prefixes-more, block-at, block-narrow, block-largest}
+use Rattle.ranges.proofs.Blocks.{block-at, block-narrow, block-largest}
+use Rattle.ranges.proofs.Expansion.{firstOf, nextOf, prefixes-done, prefixes-more}
 
 -- ---- induction along the prefixes of a range
 module _ (w high : ℕ) (P : ℕ → List Prefix → Type 0)

@@ -3,11 +3,8 @@
 -- contract's `ensures`; `ps` and `r` are its parameters' and its result's types.
 -- Assumes nothing.
 use mathlib.Core.Path.{_≡_, sym, _∙_}
-use borrow.Fn.Kinds.{Dens, resT, endedOf}
-use contract.Lifetimes.{Lfts}
 use denote.Ref.{now}
-use denote.Triple.Clauses.{AtExit}
-use Rattle.ranges.proofs.OneAnswer.{OneAnswer}
+use Rattle.ranges.proofs.OneAnswer.{OneAnswer, OneRun}
 use Rattle.ranges.proofs.refusal.refuse.Kinds as refuse-kinds
 use Rattle.ranges.proofs.refusal.refuse.Reads as refuse
 use Rattle.ranges.proofs.side.side_of.Kinds as side-of-kinds
@@ -30,7 +27,5 @@ pub range-to-prefixes-one : OneAnswer 1 range-to-prefixes-kinds.ps range-to-pref
 range-to-prefixes-one κs a x y e g p q = p .0 ∙ sym (q .0)
 
 -- the run afterwards is one too
-pub range-to-prefixes-run-one : (κs : Lfts 1) (a : Dens κs range-to-prefixes-kinds.ps) (x y : resT range-to-prefixes-kinds.r κs .Denot)
-    (e g : AtExit (endedOf 1 range-to-prefixes-kinds.ps range-to-prefixes-kinds.r) κs)
-    → range-to-prefixes.Learnt κs a x e → range-to-prefixes.Learnt κs a y g → now (e .1 .1 .1 .0) ≡ now (g .1 .1 .1 .0)
+pub range-to-prefixes-run-one : OneRun 1 range-to-prefixes-kinds.ps range-to-prefixes-kinds.r range-to-prefixes.Learnt (λ κs e. now (e .1 .1 .1 .0))
 range-to-prefixes-run-one κs a x y e g p q = p .1 ∙ sym (q .1)

@@ -1,7 +1,7 @@
 -- Laws of the prefixes of a range (`specs/Blocks.antt`): none for an empty range, else the largest block and the prefixes of what is
 -- left. Whoever reasons on the prefixes goes by these two, and by induction on how many numbers are left.
+--     firstOf, nextOf                      the first prefix of a range, and where the next one starts
 --     prefixes-done, prefixes-more         the two laws
---     block-at, block-narrow, block-largest     the largest block fits, lies within the width, and is the largest
 -- Assumes nothing.
 use Prim.Native.Nat.{ℕ, zero, suc, _+_, _-_, _%_, _^_, _≤_, _<_}
 use mathlib.Core.Bool.{Bool, true, false}
@@ -70,21 +70,3 @@ module _ (w low high : ℕ) where
       let turns : endOf high - low ≡ suc m = omega arith in
       ap (λ k. prefixesFrom k w low high) turns ∙ from-more w high m low within
       ∙ ap (λ ps. firstOf w low high ∷ ps) (from-enough w high m (endOf high - next) next (omega (arith, pow-pos (blockOf w low high))) (omega arith))
-
--- ---- the largest block of a range that is not empty
-module _ (w low high : ℕ) (within : low < endOf high) where
-  holds : (blockFits low high (blockOf w low high) ≡ true) × (0 ≤ blockOf w low high) × (blockOf w low high < suc w)
-  unfolding blockOf
-  holds = greatest-holds (blockFits low high) (suc w) 0 (omega arith) (fits-one low high within)
-
-  -- it is aligned, and stays in the range
-  pub block-at : (low % 2 ^ blockOf w low high ≡ 0) × (nextOf w low high ≤ endOf high)
-  block-at = fits-at low high (blockOf w low high) (holds .0)
-
-  pub block-narrow : blockOf w low high ≤ w
-  block-narrow = omega (arith, holds .2)
-
-  -- no larger one does
-  pub block-largest : (t : ℕ) → t ≤ w → blockFits low high t ≡ true → t ≤ blockOf w low high
-  unfolding blockOf
-  block-largest t le fits = greatest-holds (blockFits low high) (suc w) t (omega arith) fits .1

@@ -18,8 +18,8 @@ use Rattle.ranges.specs.Sides.{endOf}
 use Rattle.ranges.specs.Blocks.{Prefix, Ranged, blockOf, prefixesOf}
 use Rattle.ranges.proofs.Sides.{past-high, high-within}
 use Rattle.ranges.proofs.Widths.{aligned-fewer, aligned-on, aligned-less, pow-more}
-use Rattle.ranges.proofs.Blocks.{fits-yes}
-use Rattle.ranges.proofs.Expansion.{firstOf, nextOf, prefixes-done, prefixes-more, block-at, block-narrow, block-largest}
+use Rattle.ranges.proofs.Blocks.{fits-yes, block-at, block-narrow, block-largest}
+use Rattle.ranges.proofs.Expansion.{firstOf, nextOf, prefixes-done, prefixes-more}
 use Rattle.ranges.proofs.Cover.{prefixes-ind}
 
 -- one of two orders holds

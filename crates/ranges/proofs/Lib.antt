@@ -1,5 +1,6 @@
 -- The laws that proofs of this crate and above cite:
 -- Numbers: of `all`, `count`, `least`, `greatest` and `tab`.
+-- Counting: more of `count`, up to the pigeonhole.
 -- Widths: what shifts and masks do, once for every width.
 -- Answers: what an answer says tells it apart from every other.
 -- OneAnswer: a contract that allows one result alone.
@@ -14,6 +15,7 @@
 -- Theorems: the headline statements, T1 to T5.
 -- Determined: any two results that a contract allows are equal.
 pub mod Numbers
+pub mod Counting
 pub mod Widths
 pub mod Answers
 pub mod OneAnswer

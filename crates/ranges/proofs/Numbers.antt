@@ -1,11 +1,12 @@
 -- Laws of what a test says of the numbers below n (`specs/Numbers.antt`). A loop that tests 0, 1, .. keeps "all
 -- below j passed", "t of those below j passed" or "none below j passed", and these laws take its step and its
 -- ways out.
---     all-yes, all-at, all-no          every number below n passes; each then does; one that fails
---     count-more, count-le             one number more; never more than n
+--     all-yes, all-at, all-no, all-some     every number below n passes; each then does; one fails; and where not all pass, one fails
+--     count-more, count-le             one number more; never more than n (`Counting.antt` has more)
 --     least-is, least-none             the least that passes; n where none does
---     least-hit, least-under, least-le it passes; those under it fail; it is at most n
+--     least-hit, least-under, least-upto, least-le    it passes; those under it fail; it is at most each that passes, and at most n
 --     greatest-is, greatest-holds      the greatest that passes; what it is where one passes
+--     all-same, least-same, greatest-same   two tests that answer alike below n
 --     tab-length, tab-at               the list of a function's values
 -- Assumes nothing.
 use Prim.Native.Nat.{ℕ, zero, suc, _+_, _≤_, _<_}
@@ -69,6 +70,17 @@ module _ (P : ℕ → Bool) where
       go : (t : Bool) → all n P ≡ t → all n P ≡ false
       go true q = absurd (true-not-false (all-at n q k lt) e)
       go false q = q
+
+  pub all-some : (n : ℕ) → all n P ≡ false → (k : ℕ) × (k < n) × (P k ≡ false)
+  unfolding all
+  all-some zero e = never (cc)
+  all-some (suc n) e = go (P n) refl (all n P) refl (all-some n) e
+    where
+      go : (t : Bool) → P n ≡ t → (s : Bool) → all n P ≡ s → (all n P ≡ false → (k : ℕ) × (k < n) × (P k ≡ false)) → (s and t) ≡ false
+          → (k : ℕ) × (k < suc n) × (P k ≡ false)
+      go false p s q under e = (n, omega arith, p)
+      go true p false q under e = let at = under q in (at .0, omega (arith, at .1), at .2)
+      go true p true q under e = never (cc)
 
 -- ---- count
 module _ (P : ℕ → Bool) where
@@ -154,6 +166,13 @@ module _ (P : ℕ → Bool) where
   pub least-under : (n k : ℕ) → k < least n P → P k ≡ false
   least-under n k = holds n .1 k
 
+  pub least-upto : (n k : ℕ) → P k ≡ true → least n P ≤ k
+  least-upto n k passes = go (ltb k (least n P)) refl
+    where
+      go : (t : Bool) → ltb k (least n P) ≡ t → least n P ≤ k
+      go true e = absurd (true-not-false passes (least-under n k (ltb-true k (least n P) e)))
+      go false e = ltb-false k (least n P) e
+
 -- ---- greatest
 module _ (P : ℕ → Bool) where
   pub greatest-is : (n j : ℕ) → j < n → P j ≡ true → ((k : ℕ) → j < k → k < n → P k ≡ false) → greatest n P ≡ j
@@ -179,6 +198,23 @@ module _ (P : ℕ → Bool) where
           (λ is-n. absurd (true-not-false (subst (λ j. P j ≡ true) is-n passes) e))
           (λ l. (under l .0, under l .1, omega (arith, under l .2)))
           (eq-or-lt-of-le (le-of-suc-le-suc lt))
+
+-- ---- two tests that answer alike
+module _ (P Q : ℕ → Bool) where
+  pub all-same : (n : ℕ) → ((k : ℕ) → k < n → P k ≡ Q k) → all n P ≡ all n Q
+  unfolding all
+  all-same zero same = refl
+  all-same (suc n) same = rw (all-same n (λ k lt. same k (omega arith)), same n (omega arith))
+
+  pub least-same : (n : ℕ) → ((k : ℕ) → k < n → P k ≡ Q k) → least n P ≡ least n Q
+  unfolding least
+  least-same zero same = refl
+  least-same (suc n) same = rw (least-same n (λ k lt. same k (omega arith)), same n (omega arith))
+
+  pub greatest-same : (n : ℕ) → ((k : ℕ) → k < n → P k ≡ Q k) → greatest n P ≡ greatest n Q
+  unfolding greatest
+  greatest-same zero same = refl
+  greatest-same (suc n) same = rw (greatest-same n (λ k lt. same k (omega arith)), same n (omega arith))
 
 -- ---- tab
 module _ (f : ℕ → ℕ) where

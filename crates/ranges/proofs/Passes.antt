@@ -14,7 +14,8 @@ use lib.Seq.{drop-cons, set-at}
 use Rattle.ranges.specs.Sides.{endOf}
 use Rattle.ranges.specs.Blocks.{Prefix, Ranged, blockOf, prefixesOf, flat, written}
 use Rattle.ranges.proofs.Sides.{within-high, past-high}
-use Rattle.ranges.proofs.Expansion.{firstOf, nextOf, prefixes-done, prefixes-more, block-at, block-narrow}
+use Rattle.ranges.proofs.Blocks.{block-at, block-narrow}
+use Rattle.ranges.proofs.Expansion.{firstOf, nextOf, prefixes-done, prefixes-more}
 
 -- ---- what is left of a range
 -- the range from here on is one of the same width, or empty

@@ -12,7 +12,7 @@ use lib.Pow.{le-ones, lt-of-le-ones, suc-ones}
 use borrow.Author.Tests.{lt-ltb, le-ltb, le-leb, lt-leb, eq-eqb, ne-eqb}
 use Rattle.ranges.specs.Numbers.{pick, _or_}
 use Rattle.ranges.specs.Refusals.{none, refused, stands, BadWidth, BadPrefix}
-use Rattle.ranges.specs.Prefixes.{badPrefix, prefixFault, highOf, boundsOf}
+use Rattle.ranges.specs.Prefixes.{badPrefix, prefixFault, lastOf, boundsOf}
 use Rattle.ranges.specs.declared.prefix.Bounds.{Bounds}
 use Rattle.ranges.specs.declared.prefix.Bounds.the-variants.{Are, Refused}
 
@@ -50,5 +50,5 @@ module _ (w value len : ℕ) (some : 1 ≤ w) (few : w ≤ 32) where
   bounds-10-bit short narrow odd = rw (at-10, le-ltb w len short, lt-leb (2 ^ w) value narrow, ne-eqb (value % 2 ^ (w - len)) 0 odd)
 
   -- ---- the range
-  pub bounds-are : len ≤ w → value < 2 ^ w → value % 2 ^ (w - len) ≡ 0 → boundsOf w value len ≡ Are value (highOf w value len)
+  pub bounds-are : len ≤ w → value < 2 ^ w → value % 2 ^ (w - len) ≡ 0 → boundsOf w value len ≡ Are value (lastOf w value len)
   bounds-are short narrow even = rw (at-10, le-ltb w len short, lt-leb (2 ^ w) value narrow, eq-eqb (value % 2 ^ (w - len)) 0 even)

@@ -1,8 +1,9 @@
 -- Laws of the first number past a range and of the range test (`specs/Sides.antt`).
---     past-high, within-high           the code's tests on high, as facts on the first number past the range
+--     past-high, within-high, high-within       the code's tests on high, as facts on the first number past the range
 --     side-below, side-above, side-inside       which outcome a number has
+--     Lies, lies                                the three outcomes, with the facts that lead to each
 --     is-below, is-above, is-inside             what an outcome says of the number
---     inside-yes, inside-no                     the outcome as a test
+--     inside-yes, inside-at                     the outcome as a test
 -- Assumes nothing.
 use Prim.Native.Nat.{ℕ, _+_, _≤_, _<_}
 use mathlib.Core.Bool.{Bool, true, false}
@@ -25,10 +26,6 @@ module _ (high x : ℕ) where
   pub within-high : x ≤ high → x < endOf high
   unfolding endOf
   within-high le = omega arith
-
-  pub high-past : endOf high ≤ x → high < x
-  unfolding endOf
-  high-past le = omega arith
 
   pub high-within : x < endOf high → x ≤ high
   unfolding endOf
@@ -101,6 +98,3 @@ module _ (low high x : ℕ) where
 
   pub inside-at : isInside (sideOf low high x) ≡ true → (low ≤ x) × (x < endOf high)
   inside-at e = is-inside (inside-is (sideOf low high x) e)
-
-  pub below-not-inside : x < low → isInside (sideOf low high x) ≡ false
-  below-not-inside lt = ap isInside (side-below low high x lt)

@@ -24,7 +24,7 @@ use lib.Pow.{pow-pos}
 use lib.Seq.{getD-append-add, getD-drop}
 use borrow.Author.Tests.{ne-eqb}
 use Rattle.ranges.specs.Sides.{endOf, sideOf}
-use Rattle.ranges.specs.Prefixes.{boundsOf, highOf}
+use Rattle.ranges.specs.Prefixes.{boundsOf, lastOf}
 use Rattle.ranges.specs.Blocks.{Ranged, prefixesOf, expandFault, runAfter, written, flat}
 use Rattle.ranges.specs.declared.prefix.Bounds.the-variants.{Are}
 use Rattle.ranges.proofs.Sides.{Lies, lies, within-high, past-high}
@@ -49,7 +49,7 @@ prefix-holds value k x even =
 
 -- such a prefix of 1 to 32 bits has the range that starts at its value and ends with its block
 pub prefix-stands : (w value len : ℕ) → 1 ≤ w → w ≤ 32 → len ≤ w → value < 2 ^ w → value % 2 ^ (w - len) ≡ 0
-    → boundsOf w value len ≡ Are value (highOf w value len)
+    → boundsOf w value len ≡ Are value (lastOf w value len)
 prefix-stands w value len some few short narrow even = bounds-are w value len some few short narrow even
 
 -- T2: whatever is refused, the run stays

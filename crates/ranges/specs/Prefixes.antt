@@ -27,14 +27,14 @@ prefixFault w value len =
     (pick (badPrefix w value len) (refused BadPrefix)
     none)
 
--- the high end: the last of 2 ^ (w - length) numbers from the value on
-abbrev pub highOf : ℕ → ℕ → ℕ → ℕ
-highOf w value len = value + (2 ^ (w - len) - 1)
+-- the high end: the last of the 2 ^ (w - length) numbers from the value on
+abbrev pub lastOf : ℕ → ℕ → ℕ → ℕ
+lastOf w value len = value + (2 ^ (w - len) - 1)
 
 -- the range of a prefix, unless it is refused
 -- (width 32, value 0, length 0: 0 to 4294967295; width 5, value 16, length 2: 16 to 23)
 abbrev pub boundsOf : ℕ → ℕ → ℕ → Bounds
-boundsOf w value len = pick (stands (prefixFault w value len)) (Are value (highOf w value len)) (Refused (prefixFault w value len))
+boundsOf w value len = pick (stands (prefixFault w value len)) (Are value (lastOf w value len)) (Refused (prefixFault w value len))
 
 -- what the answer says in the paper's words: low and high
 abbrev pub saysBounds : Bounds → Said

@@ -23,7 +23,7 @@ use Rattle.sorting.specs.Table.{builtTable}
 use Rattle.sorting.specs.Asked.{Buildable}
 use Rattle.sorting.specs.Build.{buildFault, sameNumbers, auditOf}
 use Rattle.sorting.specs.declared.audit.Verdict.the-variants.{Yes, No}
-use Rattle.sorting.proofs.Sound.{list-shaped}
+use Rattle.lists.proofs.Sound.{list-shaped}
 use Rattle.sorting.proofs.Reading.{table-sized}
 
 -- ---- two runs with the same numbers

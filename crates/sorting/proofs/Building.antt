@@ -29,7 +29,7 @@ use Rattle.sorting.specs.Layout.{tableLength}
 use Rattle.sorting.specs.Table.{tableOf, builtTable}
 use Rattle.sorting.specs.Asked.{RunFor, Laying, Buildable}
 use Rattle.sorting.specs.Build.{buildFault, builtParts, Built}
-use Rattle.sorting.proofs.Sound.{list-shaped}
+use Rattle.lists.proofs.Sound.{list-shaped}
 use Rattle.sorting.proofs.FirstFits.{first-fit-length, first-fit-choice}
 
 -- ---- 1 to 5

@@ -9,7 +9,7 @@ use Rattle.lists.specs.Faults.{listFault}
 use Rattle.sorting.specs.Opening.{viewOf}
 use Rattle.sorting.specs.Promise.{Promise}
 use Rattle.sorting.specs.Table.{builtTable}
-use Rattle.sorting.proofs.Sound.{Sound, list-sound}
+use Rattle.lists.proofs.Sound.{Sound, list-sound}
 use Rattle.sorting.proofs.Kept.{choice-keeps-promise}
 use Rattle.sorting.proofs.FirstFits.{first-fit-choice}
 

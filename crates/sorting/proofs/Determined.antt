@@ -3,11 +3,8 @@
 -- contract's `ensures`; `ps` and `r` are its parameters' and its result's types.
 -- Assumes nothing.
 use mathlib.Core.Path.{_≡_, sym, _∙_}
-use borrow.Fn.Kinds.{Dens, resT, endedOf}
-use contract.Lifetimes.{Lfts}
 use denote.Ref.{now}
-use denote.Triple.Clauses.{AtExit}
-use Rattle.ranges.proofs.OneAnswer.{OneAnswer}
+use Rattle.ranges.proofs.OneAnswer.{OneAnswer, OneRun}
 use Rattle.sorting.proofs.layout.table_length.Kinds as table-length-kinds
 use Rattle.sorting.proofs.layout.table_length.Reads as table-length
 use Rattle.sorting.proofs.layout.order_at.Kinds as order-at-kinds
@@ -54,9 +51,7 @@ pub build-one : OneAnswer 2 build-kinds.ps build-kinds.r build.Learnt
 build-one κs a x y e g p q = p .answers ∙ sym (q .answers)
 
 -- the table afterwards is one too
-pub build-table-one : (κs : Lfts 2) (a : Dens κs build-kinds.ps) (x y : resT build-kinds.r κs .Denot)
-    (e g : AtExit (endedOf 2 build-kinds.ps build-kinds.r) κs)
-    → build.Learnt κs a x e → build.Learnt κs a y g → now (e .1 .1 .0) ≡ now (g .1 .1 .0)
+pub build-table-one : OneRun 2 build-kinds.ps build-kinds.r build.Learnt (λ κs e. now (e .1 .1 .0))
 build-table-one κs a x y e g p q = p .leaves ∙ sym (q .leaves)
 
 pub audit-one : OneAnswer 2 audit-kinds.ps audit-kinds.r audit.Learnt

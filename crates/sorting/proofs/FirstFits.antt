@@ -22,31 +22,11 @@ use lib.Seq.{getD-at}
 use lib.Dec.{ltb, eqb}
 use borrow.Author.Tests.{eq-eqb, eqb-true, ltb-true, ltb-false, not-true, not-false}
 use Rattle.ranges.specs.Numbers.{_and_, all}
-use Rattle.ranges.proofs.Numbers.{never, true-not-false, and-left, and-right, all-yes, all-at, all-no, least-is, least-hit, least-under}
+use Rattle.ranges.proofs.Numbers.{never, true-not-false, and-left, and-right, all-yes, all-at, all-no, all-some, all-same, least-is, least-hit, least-under, least-same}
 use Rattle.lists.specs.Rules.{Rules, rulesIn}
 use Rattle.sorting.specs.Order.{clash}
 use Rattle.sorting.specs.FirstFit.{partOf, free, fitOf, firstFit, parts, Choice}
-use Rattle.sorting.proofs.Counting.{least-same}
 use Rattle.sorting.proofs.Parts.{parts-over}
-
--- ---- tests of all numbers below n
-module _ (P : ℕ → Bool) where
-  -- one fails
-  all-some : (n : ℕ) → all n P ≡ false → (k : ℕ) × (k < n) × (P k ≡ false)
-  unfolding all
-  all-some zero e = never (cc)
-  all-some (suc n) e = go (P n) refl (all n P) refl (all-some n) e
-    where
-      go : (t : Bool) → P n ≡ t → (s : Bool) → all n P ≡ s → (all n P ≡ false → (k : ℕ) × (k < n) × (P k ≡ false)) → (s and t) ≡ false
-          → (k : ℕ) × (k < suc n) × (P k ≡ false)
-      go false p s q under e = (n, omega arith, p)
-      go true p false q under e = let at = under q in (at .0, omega (arith, at .1), at .2)
-      go true p true q under e = never (cc)
-
-all-same : (P Q : ℕ → Bool) (n : ℕ) → ((k : ℕ) → k < n → P k ≡ Q k) → all n P ≡ all n Q
-unfolding all
-all-same P Q zero h = refl
-all-same P Q (suc n) h = rw (all-same P Q n (λ k l. h k (omega arith)), h n (omega arith))
 
 -- ---- a partition is free for a rule
 -- a member that does not clash, and a rule that is no member, leave it free

@@ -19,8 +19,8 @@ use Rattle.sorting.specs.Opening.{viewOf}
 use Rattle.sorting.specs.Table.{placeOf, ruleAt, startOf, tableOf}
 use Rattle.sorting.specs.Report.{sizeOf, leastRule, reportOf}
 use Rattle.sorting.specs.declared.report.Part.the-variants.{Is}
-use Rattle.sorting.proofs.Sound.{Sound}
-use Rattle.sorting.proofs.Counting.{count-split}
+use Rattle.lists.proofs.Sound.{Sound}
+use Rattle.ranges.proofs.Counting.{count-split}
 use Rattle.sorting.proofs.Parts.{choice-parts}
 use Rattle.sorting.proofs.Places.{place-lt, rule-place, place-rule, start-is, start-zero, start-last, start-few, start-ascend, in-part, part-of}
 use Rattle.sorting.proofs.Kept.{choice-few}

@@ -17,9 +17,8 @@ use lib.Dec.{ltb, eqb}
 use lib.ListN.{length, getD, set, length-set, List·getD-eq-default}
 use lib.Seq.{getD-set-same, getD-set-other, ext-getD}
 use Rattle.ranges.specs.Numbers.{pick, _and_, all, tab}
-use Rattle.ranges.proofs.Numbers.{least-is, least-none, tab-length, tab-at}
+use Rattle.ranges.proofs.Numbers.{least-is, least-none, least-same, tab-length, tab-at}
 use Rattle.lists.specs.Rules.{Rules}
-use Rattle.sorting.proofs.Counting.{least-same}
 use Rattle.sorting.specs.Order.{clash}
 use Rattle.sorting.specs.FirstFit.{partOf, free, fitOf}
 use Rattle.sorting.specs.Marks.{stampOf, markOf, stamped, unstamped, Marking}

@@ -1,12 +1,9 @@
--- Laws of how many numbers below n pass a test, of two tests and of a function's values. `ranges`, `proofs/Numbers.antt`, has the
--- first laws of `count`.
---     count-same, count-all, count-none      tests that agree; all pass; none passes
+-- Laws of how many numbers below n pass a test (`count` of `specs/Numbers.antt`; its first laws are in `Numbers.antt`), up to the pigeonhole.
+--     count-all, count-none                  all pass; none passes
 --     count-mono, count-strict, count-lt     a test that passes no less; that passes one more; one that fails
 --     count-split                            a test that passes where one of two does, but never both
 --     count-once, count-some                 at most one passes; some passes
 --     onto                                   a one-to-one function from the numbers below n to themselves reaches each of them
---     least-same, greatest-same              tests that agree
---     greatest-hit, greatest-ge, greatest-lt the greatest that passes, passes; is not less than one that does; is below n
 -- Assumes nothing.
 use Prim.Native.Nat.{ℕ, zero, suc, _+_, _-_, _≤_, _<_}
 use mathlib.Core.Bool.{Bool, true, false}
@@ -16,8 +13,7 @@ use native.Mathlib.Omega.{arith}
 use native.Mathlib.Nat.{eq-or-lt-of-le, le-of-suc-le-suc}
 use lib.Dec.{ltb, eqb}
 use borrow.Author.Tests.{lt-ltb, le-ltb, ltb-true, ltb-false, eqb-true, eqb-false}
-use Rattle.ranges.specs.Numbers.{pick, bit, count, least, greatest}
-use Rattle.ranges.proofs.Numbers.{true-not-false}
+use Rattle.ranges.specs.Numbers.{bit, count}
 
 -- ---- one test's share
 bit-mono : (s t : Bool) → (s ≡ true → t ≡ true) → bit s ≤ bit t
@@ -38,11 +34,6 @@ module _ (P : ℕ → Bool) where
 
 -- ---- two tests
 module _ (P Q : ℕ → Bool) where
-  pub count-same : (n : ℕ) → ((k : ℕ) → k < n → P k ≡ Q k) → count n P ≡ count n Q
-  unfolding count
-  count-same zero h = refl
-  count-same (suc n) h = rw (count-same n (λ k l. h k (omega arith)), h n (omega arith))
-
   pub count-mono : (n : ℕ) → ((k : ℕ) → k < n → P k ≡ true → Q k ≡ true) → count n P ≤ count n Q
   unfolding count
   count-mono zero h = omega arith
@@ -150,56 +141,3 @@ module _ (n : ℕ) (f : ℕ → ℕ) where
         let some : 0 < count n (λ k. eqb (f k) p) = omega (arith, few p, reach p, many (n - suc p) (suc p) (omega arith)) in
         let at = count-some (λ k. eqb (f k) p) n some in
         (at .0, at .1, eqb-true (f (at .0)) p (at .2))
-
--- ---- tests that agree
-module _ (P Q : ℕ → Bool) where
-  pub least-same : (n : ℕ) → ((k : ℕ) → k < n → P k ≡ Q k) → least n P ≡ least n Q
-  unfolding least
-  least-same zero h = refl
-  least-same (suc n) h = rw (least-same n (λ k l. h k (omega arith)), h n (omega arith))
-
-  pub greatest-same : (n : ℕ) → ((k : ℕ) → k < n → P k ≡ Q k) → greatest n P ≡ greatest n Q
-  unfolding greatest
-  greatest-same zero h = refl
-  greatest-same (suc n) h = rw (greatest-same n (λ k l. h k (omega arith)), h n (omega arith))
-
--- ---- greatest
-pick-le : (t : Bool) (n g : ℕ) → g ≤ n → pick t n g ≤ n
-pick-le true n g le = omega arith
-pick-le false n g le = le
-
-module _ (P : ℕ → Bool) where
-  greatest-le : (n : ℕ) → greatest (suc n) P ≤ n
-  unfolding greatest
-  greatest-le zero = pick-le (P 0) 0 0 (omega arith)
-  greatest-le (suc n) = pick-le (P (suc n)) (suc n) (greatest (suc n) P) (omega (arith, greatest-le n))
-
-  pub greatest-lt : (n : ℕ) → 0 < n → greatest n P < n
-  greatest-lt zero some = absurd (omega arith)
-  greatest-lt (suc n) some = omega (arith, greatest-le n)
-
-  pub greatest-ge : (n j : ℕ) → j < n → P j ≡ true → j ≤ greatest n P
-  unfolding greatest
-  greatest-ge zero j lt passes = absurd (omega arith)
-  greatest-ge (suc n) j lt passes = go (P n) refl (greatest-ge n j)
-    where
-      go : (t : Bool) → P n ≡ t → (j < n → P j ≡ true → j ≤ greatest n P) → j ≤ pick t n (greatest n P)
-      go true e under = omega arith
-      go false e under =
-          ⊎-elim
-          (λ is. absurd (true-not-false (sym (ap P is) ∙ passes) e))
-          (λ l. under l passes)
-          (eq-or-lt-of-le (le-of-suc-le-suc lt))
-
-  pub greatest-hit : (n j : ℕ) → j < n → P j ≡ true → P (greatest n P) ≡ true
-  unfolding greatest
-  greatest-hit zero j lt passes = absurd (omega arith)
-  greatest-hit (suc n) j lt passes = go (P n) refl (greatest-hit n j)
-    where
-      go : (t : Bool) → P n ≡ t → (j < n → P j ≡ true → P (greatest n P) ≡ true) → P (pick t n (greatest n P)) ≡ true
-      go true e under = e
-      go false e under =
-          ⊎-elim
-          (λ is. absurd (true-not-false (sym (ap P is) ∙ passes) e))
-          (λ l. under l passes)
-          (eq-or-lt-of-le (le-of-suc-le-suc lt))
