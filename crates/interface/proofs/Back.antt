@@ -49,10 +49,10 @@ abbrev pub CountRefuses : Count → Type 0
 CountRefuses (count.Is k) = Unit {0}
 CountRefuses (count.Refused x) = Refuses x
 
-abbrev pub countIn : List ℕ → Count
-countIn run = countUnless (refusalIn run) (nth 3 run)
+abbrev pub countBack : List ℕ → Count
+countBack run = countUnless (refusalIn run) (nth 3 run)
 
-pub count-back : (x : Count) → CountRefuses x → countIn (numbersOf 1 (saysCount x)) ≡ x
+pub count-back : (x : Count) → CountRefuses x → countBack (numbersOf 1 (saysCount x)) ≡ x
 count-back (count.Is k) p = refl
 count-back (count.Refused x) p = rw (ne-eqb (x .number) 0 p)
 
@@ -61,10 +61,10 @@ abbrev pub BoundsRefuse : Bounds → Type 0
 BoundsRefuse (bounds.Are low high) = Unit {0}
 BoundsRefuse (bounds.Refused x) = Refuses x
 
-abbrev pub boundsIn : List ℕ → Bounds
-boundsIn run = pick (stands (refusalIn run)) (bounds.Are (nth 3 run) (nth 4 run)) (bounds.Refused (refusalIn run))
+abbrev pub boundsBack : List ℕ → Bounds
+boundsBack run = pick (stands (refusalIn run)) (bounds.Are (nth 3 run) (nth 4 run)) (bounds.Refused (refusalIn run))
 
-pub bounds-back : (x : Bounds) → BoundsRefuse x → boundsIn (numbersOf 2 (saysBounds x)) ≡ x
+pub bounds-back : (x : Bounds) → BoundsRefuse x → boundsBack (numbersOf 2 (saysBounds x)) ≡ x
 bounds-back (bounds.Are low high) p = refl
 bounds-back (bounds.Refused x) p = rw (ne-eqb (x .number) 0 p)
 
@@ -74,13 +74,13 @@ MatchRefuses (match.Rule i) = Unit {0}
 MatchRefuses match.Nothing = Unit {0}
 MatchRefuses (match.Refused x) = Refuses x
 
-abbrev pub matchIn : List ℕ → Match
-matchIn run =
+abbrev pub matchBack : List ℕ → Match
+matchBack run =
     pick (stands (refusalIn run))
     (pick (eqb (nth 3 run) 1) (match.Rule (nth 4 run)) match.Nothing)
     (match.Refused (refusalIn run))
 
-pub match-back : (x : Match) → MatchRefuses x → matchIn (numbersOf 2 (saysMatch x)) ≡ x
+pub match-back : (x : Match) → MatchRefuses x → matchBack (numbersOf 2 (saysMatch x)) ≡ x
 match-back (match.Rule i) p = refl
 match-back match.Nothing p = refl
 match-back (match.Refused x) p = rw (ne-eqb (x .number) 0 p)
@@ -91,13 +91,13 @@ PairRefuses pair.Independent = Unit {0}
 PairRefuses (pair.Both i j) = Unit {0}
 PairRefuses (pair.Refused x) = Refuses x
 
-abbrev pub pairIn : List ℕ → Pair
-pairIn run =
+abbrev pub pairBack : List ℕ → Pair
+pairBack run =
     pick (stands (refusalIn run))
     (pick (eqb (nth 3 run) 1) pair.Independent (pair.Both (nth 4 run) (nth 5 run)))
     (pair.Refused (refusalIn run))
 
-pub pair-back : (x : Pair) → PairRefuses x → pairIn (numbersOf 3 (saysPair x)) ≡ x
+pub pair-back : (x : Pair) → PairRefuses x → pairBack (numbersOf 3 (saysPair x)) ≡ x
 pair-back pair.Independent p = refl
 pair-back (pair.Both i j) p = refl
 pair-back (pair.Refused x) p = rw (ne-eqb (x .number) 0 p)
@@ -108,13 +108,13 @@ VerdictRefuses verdict.Yes = Unit {0}
 VerdictRefuses verdict.No = Unit {0}
 VerdictRefuses (verdict.Refused x) = Refuses x
 
-abbrev pub verdictIn : List ℕ → Verdict
-verdictIn run =
+abbrev pub verdictBack : List ℕ → Verdict
+verdictBack run =
     pick (stands (refusalIn run))
     (pick (eqb (nth 3 run) 1) verdict.Yes verdict.No)
     (verdict.Refused (refusalIn run))
 
-pub verdict-back : (x : Verdict) → VerdictRefuses x → verdictIn (numbersOf 1 (saysVerdict x)) ≡ x
+pub verdict-back : (x : Verdict) → VerdictRefuses x → verdictBack (numbersOf 1 (saysVerdict x)) ≡ x
 verdict-back verdict.Yes p = refl
 verdict-back verdict.No p = refl
 verdict-back (verdict.Refused x) p = rw (ne-eqb (x .number) 0 p)
@@ -124,10 +124,10 @@ abbrev pub PartRefuses : Part → Type 0
 PartRefuses (part.Is size least) = Unit {0}
 PartRefuses (part.Refused x) = Refuses x
 
-abbrev pub partIn : List ℕ → Part
-partIn run = pick (stands (refusalIn run)) (part.Is (nth 3 run) (nth 4 run)) (part.Refused (refusalIn run))
+abbrev pub partBack : List ℕ → Part
+partBack run = pick (stands (refusalIn run)) (part.Is (nth 3 run) (nth 4 run)) (part.Refused (refusalIn run))
 
-pub part-back : (x : Part) → PartRefuses x → partIn (numbersOf 2 (saysPart x)) ≡ x
+pub part-back : (x : Part) → PartRefuses x → partBack (numbersOf 2 (saysPart x)) ≡ x
 part-back (part.Is size least) p = refl
 part-back (part.Refused x) p = rw (ne-eqb (x .number) 0 p)
 
@@ -137,13 +137,13 @@ LookedRefuses (looked.Rule i t) = Unit {0}
 LookedRefuses (looked.Nothing t) = Unit {0}
 LookedRefuses (looked.Refused x) = Refuses x
 
-abbrev pub lookedIn : List ℕ → Looked
-lookedIn run =
+abbrev pub lookedBack : List ℕ → Looked
+lookedBack run =
     pick (stands (refusalIn run))
     (pick (eqb (nth 3 run) 1) (looked.Rule (nth 4 run) (nth 5 run)) (looked.Nothing (nth 5 run)))
     (looked.Refused (refusalIn run))
 
-pub looked-back : (x : Looked) → LookedRefuses x → lookedIn (numbersOf 3 (saysInPlace x)) ≡ x
+pub looked-back : (x : Looked) → LookedRefuses x → lookedBack (numbersOf 3 (saysInPlace x)) ≡ x
 looked-back (looked.Rule i t) p = refl
 looked-back (looked.Nothing t) p = refl
 looked-back (looked.Refused x) p = rw (ne-eqb (x .number) 0 p)

@@ -1,7 +1,7 @@
 -- An answer laid out as numbers: what a proof of a function that writes one cites.
 -- Assumes nothing.
 use Prim.Native.Nat.{ℕ}
-use mathlib.Core.Path.{_≡_, refl}
+use mathlib.Core.Path.{refl}
 use Rattle.ranges.specs.Refusals.{Said}
 use Rattle.interface.specs.Answers.{numbersOf, Told}
 

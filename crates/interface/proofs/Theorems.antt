@@ -14,7 +14,7 @@ use Prim.Native.Nat.{ℕ, zero, suc, _+_}
 use mathlib.Core.Bool.{Bool, true, false}
 use mathlib.Core.List.{List}
 use mathlib.Core.Path.{_≡_, refl}
-use lib.Dec.{eqb, ltb}
+use lib.Dec.{ltb}
 use borrow.Author.Tests.{eqb-false}
 use lib.ListN.{length}
 use Rattle.ranges.specs.Numbers.{pick}
@@ -46,7 +46,7 @@ use Rattle.lookup.specs.declared.walk.Found.{Found}
 use Rattle.lookup.specs.declared.lookup.Looked.{Looked}
 use Rattle.lookup.specs.declared.lookup.Looked.the-variants as looked
 use Rattle.interface.specs.Answers.{numbersOf, saysInPlace}
-use Rattle.interface.proofs.Back.{Refuses, CountRefuses, countIn, count-back, BoundsRefuse, boundsIn, bounds-back, MatchRefuses, matchIn, match-back, PairRefuses, pairIn, pair-back, VerdictRefuses, verdictIn, verdict-back, PartRefuses, partIn, part-back, LookedRefuses, lookedIn, looked-back}
+use Rattle.interface.proofs.Back.{Refuses, CountRefuses, countBack, count-back, BoundsRefuse, boundsBack, bounds-back, MatchRefuses, matchBack, match-back, PairRefuses, pairBack, pair-back, VerdictRefuses, verdictBack, verdict-back, PartRefuses, partBack, part-back, LookedRefuses, lookedBack, looked-back}
 
 -- what holds of both holds of the one picked
 either : {A : Type 0} (P : A → Type 0) (t : Bool) (a b : A) → P a → P b → P (pick t a b)
@@ -64,42 +64,42 @@ unless {A} P x a r p q = go (stands x) refl
 counted : (x : Refusal) (k : ℕ) → CountRefuses (countUnless x k)
 counted x k = unless CountRefuses x (count.Is k) (count.Refused x) tt (λ r. r)
 
-pub check-told : (R : Rules) → countIn (numbersOf 1 (saysCount (checkOf R))) ≡ checkOf R
+pub check-told : (R : Rules) → countBack (numbersOf 1 (saysCount (checkOf R))) ≡ checkOf R
 check-told R = count-back (checkOf R) (counted (listFault R) (rulesIn R))
 
-pub prefixes-told : (w low high : ℕ) (run : List ℕ) → countIn (numbersOf 1 (saysCount (expandOf w low high run))) ≡ expandOf w low high run
+pub prefixes-told : (w low high : ℕ) (run : List ℕ) → countBack (numbersOf 1 (saysCount (expandOf w low high run))) ≡ expandOf w low high run
 prefixes-told w low high run = count-back (expandOf w low high run) (counted (expandFault w low high run) (length (prefixesOf w low high)))
 
-pub range-told : (w value len : ℕ) → boundsIn (numbersOf 2 (saysBounds (boundsOf w value len))) ≡ boundsOf w value len
+pub range-told : (w value len : ℕ) → boundsBack (numbersOf 2 (saysBounds (boundsOf w value len))) ≡ boundsOf w value len
 range-told w value len =
     let fault = prefixFault w value len in
     bounds-back (boundsOf w value len) (unless BoundsRefuse fault (bounds.Are value (lastOf w value len)) (bounds.Refused fault) tt (λ r. r))
 
-pub scan-told : (R : Rules) (h : List ℕ) → matchIn (numbersOf 2 (saysMatch (scanOf R h))) ≡ scanOf R h
+pub scan-told : (R : Rules) (h : List ℕ) → matchBack (numbersOf 2 (saysMatch (scanOf R h))) ≡ scanOf R h
 scan-told R h =
     match-back (scanOf R h)
     (unless MatchRefuses (listFault R) (matchOf R h) (match.Refused (listFault R))
     (either MatchRefuses (ltb (firstMatch R h) (rulesIn R)) (match.Rule (firstMatch R h)) match.Nothing tt tt)
     (λ r. r))
 
-pub independence-told : (R : Rules) → pairIn (numbersOf 3 (saysPair (independenceOf R))) ≡ independenceOf R
+pub independence-told : (R : Rules) → pairBack (numbersOf 3 (saysPair (independenceOf R))) ≡ independenceOf R
 independence-told R =
     pair-back (independenceOf R)
     (unless PairRefuses (listFault R) (pairOf R) (pair.Refused (listFault R))
     (either PairRefuses (ltb (paired R) (rulesIn R)) (pair.Both (paired R) (partnerOf R (paired R))) pair.Independent tt tt)
     (λ r. r))
 
-pub build-told : (R : Rules) (T : List ℕ) → countIn (numbersOf 1 (saysCount (buildOf R T))) ≡ buildOf R T
+pub build-told : (R : Rules) (T : List ℕ) → countBack (numbersOf 1 (saysCount (buildOf R T))) ≡ buildOf R T
 build-told R T = count-back (buildOf R T) (counted (buildFault R T) (builtParts R))
 
-pub audit-told : (R : Rules) (T : List ℕ) → verdictIn (numbersOf 1 (saysVerdict (auditOf R T))) ≡ auditOf R T
+pub audit-told : (R : Rules) (T : List ℕ) → verdictBack (numbersOf 1 (saysVerdict (auditOf R T))) ≡ auditOf R T
 audit-told R T =
     verdict-back (auditOf R T)
     (unless VerdictRefuses (buildFault R T) (pick (sameNumbers T (builtTable R)) verdict.Yes verdict.No) (verdict.Refused (buildFault R T))
     (either VerdictRefuses (sameNumbers T (builtTable R)) verdict.Yes verdict.No tt tt)
     (λ r. r))
 
-pub report-told : (R : Rules) (T : List ℕ) (q : ℕ) → partIn (numbersOf 2 (saysPart (reportOf R T q))) ≡ reportOf R T q
+pub report-told : (R : Rules) (T : List ℕ) (q : ℕ) → partBack (numbersOf 2 (saysPart (reportOf R T q))) ≡ reportOf R T q
 report-told R T q =
     let v = viewOf R T in
     part-back (reportOf R T q)
@@ -117,7 +117,7 @@ module _ (R : Rules) (v : View) (h : List ℕ) where
   searched (suc k) q best t =
       visited (visitOf R v h q) (λ x u. lookupFrom R v h k (suc q) (better best x) (t + u)) (λ x u. searched k (suc q) (better best x) (t + u))
 
-pub lookup-told : (R : Rules) (T h : List ℕ) → lookedIn (numbersOf 3 (saysInPlace (lookupOf R T h))) ≡ lookupOf R T h
+pub lookup-told : (R : Rules) (T h : List ℕ) → lookedBack (numbersOf 3 (saysInPlace (lookupOf R T h))) ≡ lookupOf R T h
 unfolding lookupOf
 lookup-told R T h =
     let v = viewOf R T in

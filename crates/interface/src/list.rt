@@ -6,7 +6,6 @@ use lists::check::check_list;
 use lists::independence::independence;
 use lists::scan::plain_scan;
 use lists::shape::Shape;
-ghost use mathlib.Core.Path.{_≡_};
 ghost use Rattle.ranges.specs.Refusals.{saysCount};
 ghost use Rattle.lists.specs.Check.{checkOf};
 ghost use Rattle.lists.specs.Scan.{saysMatch, scanOf};

@@ -11,7 +11,7 @@ use native.Mathlib.Omega.{arith}
 use lib.ListN.{getD}
 use lib.Dec.{ltb, leb}
 use borrow.Author.Tests.{lt-ltb, le-ltb, le-leb, lt-leb, ltb-true, ltb-false, leb-false, not-true, not-false}
-use Rattle.ranges.specs.Numbers.{pick, least}
+use Rattle.ranges.specs.Numbers.{least}
 use Rattle.ranges.specs.Sides.{endOf}
 use Rattle.ranges.specs.Refusals.{none, refusedAt, LowAboveHigh}
 use Rattle.ranges.proofs.Numbers.{true-not-false, all-yes, all-at, all-no, least-hit, least-under}

@@ -9,7 +9,7 @@ use ranges::refusal::Refusal;
 use ranges::refusal::refuse;
 ghost use mathlib.Core.Path.{_≡_};
 ghost use Rattle.ranges.specs.Numbers.{least};
-ghost use Rattle.lists.specs.Rules.{listed, fieldsOf, isVoid, Shaped, HasRule, HasCell};
+ghost use Rattle.lists.specs.Rules.{listed, isVoid, Shaped, HasRule, HasCell};
 ghost use Rattle.lists.specs.Faults.{endsFault, listFault};
 ghost use Rattle.lists.specs.Check.{checkOf};
 

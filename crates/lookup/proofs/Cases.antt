@@ -1,13 +1,13 @@
 -- 01, A small bench list: the marked cases B1 to B12, as one table of rows and one statement about the definitions.
 -- A row has its mark, what a definition gives, and what 01 writes; both as numbers. Of a lookup these are what the answer says in the
 -- paper's words (`saysLooked`): the refusal's number and place, then 1, the rule and the tests, or 0 and the tests.
--- B10 to B12 are rows on prefixes (`ranges`), to stand below B9.
+-- B10 to B12 are about prefixes (`ranges`).
 -- Assumes nothing.
 use Prim.Native.Nat.{ℕ}
-use mathlib.Core.Bool.{Bool, true, false}
+use mathlib.Core.Bool.{Bool, true}
 use mathlib.Core.List.{List, [], _∷_}
-use lib.Dec.{T, eqb}
-use Rattle.ranges.specs.Numbers.{_and_, all, count, least, greatest, tab}
+use lib.Dec.{T}
+use Rattle.ranges.specs.Numbers.{_and_, sameNumbers, all, count, least, greatest, tab}
 use Rattle.ranges.specs.Refusals.{Said}
 use Rattle.ranges.specs.Sides.{endOf, sideOf}
 use Rattle.ranges.specs.Prefixes.{prefixFault, boundsOf, saysBounds}
@@ -33,16 +33,9 @@ pub record Row : Type 0 where
 abbrev row : ℕ → List ℕ → List ℕ → Row
 row b found written = record { mark = b; found = found; written = written }
 
--- the same numbers
-abbrev same : List ℕ → List ℕ → Bool
-same [] [] = true
-same [] (y ∷ ys) = false
-same (x ∷ xs) [] = false
-same (x ∷ xs) (y ∷ ys) = eqb x y and same xs ys
-
 abbrev hold : List Row → Bool
 hold [] = true
-hold (r ∷ rs) = same (r .found) (r .written) and hold rs
+hold (r ∷ rs) = sameNumbers (r .found) (r .written) and hold rs
 
 -- what is said, as numbers: a refusal's number and place, then what is answered
 abbrev numbers : Said → List ℕ

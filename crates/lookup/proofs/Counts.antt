@@ -32,38 +32,35 @@ pub record Few (d s e f t : ℕ) (w : Walked) : Type 0 where
   pub none : e ≤ s → (x : Found) (u : ℕ) → w ≡ Ran x u → u ≡ t
   pub some : s < e → f ≤ d → (j : ℕ) → e - s < 2 ^ j → (x : Found) (u : ℕ) → w ≡ Ran x u → u < t + (d - f) + j
 
--- what a test costs, by its outcome
+-- what a test costs: it leaves places s′ to before e′ at field f′, from where few tests are made
 module _ (d s e f t : ℕ) (w : Walked) (full : s < e) (in-row : f < d) where
+  -- j, or d less the field, falls by one
+  after : (s′ e′ f′ i j : ℕ) → Few d s′ e′ f′ (t + 1) w → f′ ≤ d → e′ - s′ < 2 ^ i → (d - f′) + i < (d - f) + j → 0 < j
+      → (x : Found) (u : ℕ) → w ≡ Ran x u → u < t + (d - f) + j
+  after s′ e′ f′ i j rest le size falls some x u ans = go (ltb s′ e′) refl
+    where
+      go : (c : Bool) → ltb s′ e′ ≡ c → u < t + (d - f) + j
+      go true q = omega (arith, rest .some (ltb-true s′ e′ q) le i size x u ans)
+      go false q = omega (arith, rest .none (ltb-false s′ e′ q) x u ans)
+
   costs : (y : Side) {a b s′ e′ f′ : ℕ} → Trusted s e (midOf s e) a b → leaves y s e f a b ≡ On s′ e′ f′ → Few d s′ e′ f′ (t + 1) w
       → (j : ℕ) → e - s < 2 ^ j → (x : Found) (u : ℕ) → w ≡ Ran x u → u < t + (d - f) + j
-  costs y tr is rest zero size x u ans = absurd (omega arith)
-  costs Below {a} {b} {s′} {e′} {f′} tr is rest (suc j) size x u ans = go (ltb s′ e′) refl
-    where
-      go : (c : Bool) → ltb s′ e′ ≡ c → u < t + (d - f) + suc j
-      go true q =
-          let is-s : s ≡ s′ = cc in
-          let is-e : a ≡ e′ = cc in
-          let is-f : f ≡ f′ = cc in
-          omega (arith, rest .some (ltb-true s′ e′ q) (omega arith) j (omega arith) x u ans)
-      go false q = omega (arith, rest .none (ltb-false s′ e′ q) x u ans)
-  costs Above {a} {b} {s′} {e′} {f′} tr is rest (suc j) size x u ans = go (ltb s′ e′) refl
-    where
-      go : (c : Bool) → ltb s′ e′ ≡ c → u < t + (d - f) + suc j
-      go true q =
-          let is-s : b ≡ s′ = cc in
-          let is-e : e ≡ e′ = cc in
-          let is-f : f ≡ f′ = cc in
-          omega (arith, rest .some (ltb-true s′ e′ q) (omega arith) j (omega arith) x u ans)
-      go false q = omega (arith, rest .none (ltb-false s′ e′ q) x u ans)
-  costs Inside {a} {b} {s′} {e′} {f′} tr is rest (suc j) size x u ans = go (ltb s′ e′) refl
-    where
-      go : (c : Bool) → ltb s′ e′ ≡ c → u < t + (d - f) + suc j
-      go true q =
-          let is-s : a ≡ s′ = cc in
-          let is-e : b ≡ e′ = cc in
-          let is-f : f + 1 ≡ f′ = cc in
-          omega (arith, rest .some (ltb-true s′ e′ q) (omega arith) (suc j) (omega arith) x u ans)
-      go false q = omega (arith, rest .none (ltb-false s′ e′ q) x u ans)
+  costs y tr is rest zero size = absurd (omega arith)
+  costs Below {a} {b} {s′} {e′} {f′} tr is rest (suc j) size =
+      let is-s : s ≡ s′ = cc in
+      let is-e : a ≡ e′ = cc in
+      let is-f : f ≡ f′ = cc in
+      after s′ e′ f′ j (suc j) rest (omega arith) (omega arith) (omega arith) (omega arith)
+  costs Above {a} {b} {s′} {e′} {f′} tr is rest (suc j) size =
+      let is-s : b ≡ s′ = cc in
+      let is-e : e ≡ e′ = cc in
+      let is-f : f ≡ f′ = cc in
+      after s′ e′ f′ j (suc j) rest (omega arith) (omega arith) (omega arith) (omega arith)
+  costs Inside {a} {b} {s′} {e′} {f′} tr is rest (suc j) size =
+      let is-s : a ≡ s′ = cc in
+      let is-e : b ≡ e′ = cc in
+      let is-f : f + 1 ≡ f′ = cc in
+      after s′ e′ f′ (suc j) (suc j) rest (omega arith) (omega arith) (omega arith) (omega arith)
 
   step-costs : {R : Rules} {v : View} {h : List ℕ} {y : Step} {s′ e′ f′ : ℕ} → Tested R v h s e f (midOf s e) y → y ≡ On s′ e′ f′ → Few d s′ e′ f′ (t + 1) w
       → Few d s e f t w

@@ -1,5 +1,5 @@
 -- The lookup in a table that keeps the promise (`sorting`, `specs/Promise.antt`) is never refused, and its match is the first match.
--- Each partition names its rule that fits (`Groups.antt`), every rule has a place in one of them, and so the smallest candidate of
+-- Each partition names its rule that fits (`Finds.antt`), every rule has a place in one of them, and so the smallest candidate of
 -- all is the smallest rule that fits.
 --     part-of-place            every place lies in a partition
 --     visit-finds              a partition names its rule that fits
@@ -29,9 +29,10 @@ use Rattle.lookup.specs.Lookup.{visitOf, better, answerOf, lookupFrom, s
 use Rattle.lookup.specs.declared.walk.Found.{Found}
 use Rattle.lookup.specs.declared.walk.Found.the-variants.{Hit, Miss}
 use Rattle.lookup.specs.declared.walk.Walked.the-variants.{Ran}
-use Rattle.lookup.proofs.Answers.{visit-fits, sooner-fits}
+use Rattle.lookup.proofs.Returned.{visit-fits, sooner-fits}
 use Rattle.lookup.proofs.Named.{Matches}
-use Rattle.lookup.proofs.Groups.{Finds, starts-within, held-first, walk-finds}
+use Rattle.lookup.proofs.Groups.{starts-within, held-first}
+use Rattle.lookup.proofs.Finds.{Finds, walk-finds}
 use Rattle.lookup.proofs.Visits.{visit-walks, from-none, from-on}
 use Rattle.lookup.proofs.Lookups.{lookup-searches}
 

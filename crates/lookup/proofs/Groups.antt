@@ -1,48 +1,37 @@
--- A walk through a partition of a table that keeps the promise (`sorting`, `specs/Promise.antt`): it is never broken, and it finds the
--- rule of the partition that fits, if there is one.
--- What holds of a group at field f (`Held`): its places are of the partition; their rules have the same ranges in fields 0 to before
--- f, with the header's numbers inside; a place of the partition that agrees with a member on fields 0 to f is a member, too, so that the
--- run of the middle lies within the group; and every place whose rule fits is a member. A test keeps this, since of two places
--- that agree on the fields before f, the earlier is under the later in field f or agrees with it there (`split`).
---     split                    of two places of a partition that agree on the fields before f
+-- What holds of a group of places at field f in a table that keeps the promise (`sorting`, `specs/Promise.antt`), and that a test keeps it.
+-- The invariant, `Held`: the places are of the partition; their rules have the same ranges in fields 0 to before f, with the header's
+-- numbers inside; a place of the partition that agrees with a member on fields 0 to f is a member, too, so that the run of the middle
+-- lies within the group; and every place whose rule fits is a member. A test keeps this, since of two places that agree on the fields
+-- before f, the earlier is under the later in field f or agrees with it there (`split`).
+--     split, between           of two places of a partition that agree on the fields before f, and of a place between two that agree
 --     Held, held-first         the invariant, and that a whole partition has it
 --     run-trusted              the middle's run lies within the group
 --     held-below, held-above, held-inside      what a test leaves has it
---     held-last                at field d one place is left, and its rule fits
---     walk-finds               the walk finds what fits
+--     one-left, last-fits, last-rule           at field d one place is left, and its rule is one of the list and fits
 -- Assumes nothing.
 use Prim.Native.Nat.{ℕ, zero, suc, _+_, _-_, _≤_, _<_}
 use mathlib.Core.Bool.{Bool, true, false}
 use mathlib.Core.List.{List}
 use mathlib.Core.Logic.{_⊎_, inl, inr, ⊎-elim}
-use mathlib.Core.Path.{_≡_, refl, sym, ap, _∙_, subst}
+use mathlib.Core.Path.{_≡_, refl, sym, ap, subst}
 use native.Mathlib.Omega.{arith}
+use native.Mathlib.Nat.{lt-of-not-le, le-of-suc-le-suc}
 use native.Mathlib.Numerals.{add-one}
 use lib.ListN.{getD}
 use lib.Dec.{ltb}
 use borrow.Author.Tests.{ltb-true, ltb-false}
 use Rattle.ranges.specs.Sides.{endOf}
-use Rattle.ranges.specs.declared.side.Side.{Side}
-use Rattle.ranges.specs.declared.side.Side.the-variants.{Below, Above, Inside}
 use Rattle.ranges.proofs.Numbers.{all-yes, all-at}
-use Rattle.ranges.proofs.Sides.{inside-at, is-below, is-above, is-inside, inside-yes}
+use Rattle.ranges.proofs.Sides.{inside-at, inside-yes}
 use Rattle.lists.specs.Rules.{Rules, fieldsOf, rulesIn, lowOf, highOf, endsAt}
-use Rattle.lists.specs.FirstMatch.{sideAt, insideAt, fits}
+use Rattle.lists.specs.FirstMatch.{insideAt, fits}
 use Rattle.sorting.specs.Layout.{View}
 use Rattle.sorting.specs.Order.{compare, isAlike}
 use Rattle.sorting.specs.Promise.{InPart, Run, Promise}
 use Rattle.sorting.specs.declared.order.Standing.the-variants.{Alike}
 use Rattle.lists.proofs.Sound.{Sound}
 use Rattle.sorting.proofs.Standings.{compare-none, alike-is, alike-refl, alike-sym, alike-trans, alike-fewer, alike-fields, Under, before-at, convex}
-use Rattle.lookup.specs.Walk.{midOf, leaves, stepAt, walkFrom}
-use Rattle.lookup.specs.declared.walk.Found.{Found}
-use Rattle.lookup.specs.declared.walk.Found.the-variants.{Hit, Miss}
-use Rattle.lookup.specs.declared.walk.Walked.{Walked}
-use Rattle.lookup.specs.declared.walk.Walked.the-variants.{Ran}
-use Rattle.lookup.specs.declared.walk.Step.the-variants.{On}
-use Rattle.lookup.proofs.Arrivals.{arrived-yes}
-use Rattle.lookup.proofs.Steps.{Trusted, trusted-stands, step-by, step-smaller}
-use Rattle.lookup.proofs.Walks.{walk-empty, walk-arrives, walk-on}
+use Rattle.lookup.proofs.Steps.{Trusted}
 
 -- ---- what a promise says of the partitions
 module _ {R : Rules} {v : View} (promise : Promise R v) where
@@ -118,15 +107,15 @@ held-first R v h q lt =
       covers = λ r in-r fit. (in-r .from-start, in-r .to-next);
     }
 
+-- a member is a place of the partition
+pub held-part : {R : Rules} {v : View} {h : List ℕ} {q s e f : ℕ} → Held R v h q s e f → (p : ℕ) → s ≤ p → p < e → InPart v q p
+held-part held p a b = record { part = held .part; from-start = omega (arith, held .from-start); to-next = omega (arith, held .to-next) }
+
 -- ---- a test
 module _ {R : Rules} {v : View} {h : List ℕ} (promise : Promise R v) {q s e f m : ℕ} (held : Held R v h q s e f)
     (in-row : f < fieldsOf R) (from : s ≤ m) (to : m < e) where
-  -- a member is a place of the partition
-  in-part : (p : ℕ) → s ≤ p → p < e → InPart v q p
-  in-part p a b = record { part = held .part; from-start = omega (arith, held .from-start); to-next = omega (arith, held .to-next) }
-
   in-m : InPart v q m
-  in-m = in-part m from to
+  in-m = held-part held m from to
 
   run : Run R v q m f
   run = promise .runs q m f in-m in-row
@@ -210,7 +199,7 @@ module _ {R : Rules} {v : View} {h : List ℕ} (promise : Promise R v) {q s e f 
         here = run .from-here
 
         in-p : InPart v q p
-        in-p = in-part p a (omega (arith, here))
+        in-p = held-part held p a (omega (arith, here))
 
         with-m-no : compare R (v .order p) (v .order m) (suc f) ≡ Alike → ⊥
         with-m-no with-m = omega (arith, in-run p in-p with-m .0)
@@ -231,18 +220,11 @@ module _ {R : Rules} {v : View} {h : List ℕ} (promise : Promise R v) {q s e f 
           same = λ p r a b c d. held .same p r a (omega arith) c (omega arith);
           inside = λ p g a b c. held .inside p g a (omega arith) c;
           closed = λ p r a b in-r like.
-              (held .closed p r a (omega arith) in-r like .0, before-run r (apart-on p r a b in-r like));
+              (held .closed p r a (omega arith) in-r like .0, lt-of-not-le (apart-on p r a b in-r like));
           covers = λ r in-r fit.
               let at = held .covers r in-r fit in
-              (at .0, before-run r (none-on r in-r (at .1) fit));
+              (at .0, lt-of-not-le (none-on r in-r (at .1) fit));
         }
-      where
-        before-run : (r : ℕ) → (v .from m f ≤ r → ⊥) → r < v .from m f
-        before-run r never-on = go (ltb r (v .from m f)) refl
-          where
-            go : (t : Bool) → ltb r (v .from m f) ≡ t → r < v .from m f
-            go true p = ltb-true r (v .from m f) p
-            go false p = absurd (never-on (ltb-false r (v .from m f) p))
 
   -- ---- above: what lies before the run's end is ruled out
   module _ (above : endsAt R (v .order m) f ≤ getD h f 0) where
@@ -268,7 +250,7 @@ module _ {R : Rules} {v : View} {h : List ℕ} (promise : Promise R v) {q s e f 
         there = run .to-here
 
         in-p : InPart v q p
-        in-p = in-part p (omega (arith, there)) b
+        in-p = held-part held p (omega (arith, there)) b
 
         with-m-no : compare R (v .order p) (v .order m) (suc f) ≡ Alike → ⊥
         with-m-no with-m = omega (arith, in-run p in-p with-m .1)
@@ -289,18 +271,11 @@ module _ {R : Rules} {v : View} {h : List ℕ} (promise : Promise R v) {q s e f 
           same = λ p r a b c d. held .same p r (omega arith) b (omega arith) d;
           inside = λ p g a b c. held .inside p g (omega arith) b c;
           closed = λ p r a b in-r like.
-              (past-run r (apart-up-to p r a b in-r like), held .closed p r (omega arith) b in-r like .1);
+              (le-of-suc-le-suc (lt-of-not-le (apart-up-to p r a b in-r like)), held .closed p r (omega arith) b in-r like .1);
           covers = λ r in-r fit.
               let at = held .covers r in-r fit in
-              (past-run r (none-up-to r in-r (at .0) fit), at .1);
+              (le-of-suc-le-suc (lt-of-not-le (none-up-to r in-r (at .0) fit)), at .1);
         }
-      where
-        past-run : (r : ℕ) → (r < v .to m f → ⊥) → v .to m f ≤ r
-        past-run r never-up = go (ltb r (v .to m f)) refl
-          where
-            go : (t : Bool) → ltb r (v .to m f) ≡ t → v .to m f ≤ r
-            go true p = absurd (never-up (ltb-true r (v .to m f) p))
-            go false p = ltb-false r (v .to m f) p
 
   -- ---- inside: the run alone is left
   module _ (inside : (lowOf R (v .order m) f ≤ getD h f 0) × (getD h f 0 < endsAt R (v .order m) f)) where
@@ -358,16 +333,13 @@ module _ {R : Rules} {v : View} {h : List ℕ} (promise : Promise R v) {q s e f 
 
 -- ---- field d
 module _ {R : Rules} {v : View} {h : List ℕ} (promise : Promise R v) {q s e : ℕ} (held : Held R v h q s e (fieldsOf R)) (some : s < e) where
-  in-last : (p : ℕ) → s ≤ p → p < e → InPart v q p
-  in-last p a b = record { part = held .part; from-start = omega (arith, held .from-start); to-next = omega (arith, held .to-next) }
-
   -- two places of a partition do not agree in all fields
   not-twins : s + 1 < e → ⊥
   not-twins more =
       let i = v .order s in
       let j = v .order (s + 1) in
-      let in-s = in-last s (omega arith) some in
-      let u = before-at R i j (promise .sorted q s (s + 1) in-s (in-last (s + 1) (omega arith) more) (omega arith)) in
+      let in-s = held-part held s (omega arith) some in
+      let u = before-at R i j (promise .sorted q s (s + 1) in-s (held-part held (s + 1) (omega arith) more) (omega arith)) in
       let low = alike-fields R i j (fieldsOf R) (held .same s (s + 1) (omega arith) some (omega arith) more) (u .field) (u .inside) .0 in
       omega (arith, low, u .under, promise .sound i (u .field) (placed-rule promise q s in-s) (u .inside))
 
@@ -385,102 +357,4 @@ module _ {R : Rules} {v : View} {h : List ℕ} (promise : Promise R v) {q s e : 
   last-fits = all-yes (insideAt R h (v .order s)) (fieldsOf R) (λ g lt. held .inside s g (omega arith) some lt)
 
   pub last-rule : v .order s < rulesIn R
-  last-rule = placed-rule promise q s (in-last s (omega arith) some)
-
--- ---- the walk
--- w is an answer, which names the rule of the partition that fits, if there is one
-pub record Finds (R : Rules) (v : View) (h : List ℕ) (q : ℕ) (w : Walked) : Type 0 where
-  pub found : Found
-  pub tests : ℕ
-  pub is : w ≡ Ran found tests
-  pub finds : (r : ℕ) → InPart v q r → fits R h (v .order r) ≡ true → found ≡ Hit (v .order r)
-
-finds-by : {R : Rules} {v : View} {h : List ℕ} {q : ℕ} {w w′ : Walked} → w ≡ w′ → Finds R v h q w′ → Finds R v h q w
-finds-by same f = record { found = f .found; tests = f .tests; is = same ∙ f .is; finds = f .finds }
-
--- what a test at a member m leaves: never a broken table, and a group that has the invariant
-record Leaves (R : Rules) (v : View) (h : List ℕ) (q s e f m : ℕ) : Type 0 where
-  start : ℕ
-  end : ℕ
-  field : ℕ
-  step : stepAt R v h s e f m ≡ On start end field
-  rest : Held R v h q start end field
-
-module _ {R : Rules} {v : View} (h : List ℕ) (promise : Promise R v) where
-  test-leaves : (q s e f m : ℕ) → Held R v h q s e f → f < fieldsOf R → s ≤ m → m < e → Leaves R v h q s e f m
-  test-leaves q s e f m held in-row from to = go (sideAt R h (v .order m) f) refl
-    where
-      rule : v .order m < rulesIn R
-      rule = placed-rule promise q m record { part = held .part; from-start = omega (arith, held .from-start); to-next = omega (arith, held .to-next) }
-
-      by : (y : Side) → sideAt R h (v .order m) f ≡ y → stepAt R v h s e f m ≡ leaves y s e f (v .from m f) (v .to m f)
-      by y is =
-          step-by R v h s e f m (rulesIn R) (v .order m) refl refl (v .from m f) (v .to m f) refl refl rule y
-          (trusted-stands (run-trusted promise held in-row from to))
-          (sym is)
-
-      go : (y : Side) → sideAt R h (v .order m) f ≡ y → Leaves R v h q s e f m
-      go Below is =
-          record {
-            start = s;
-            end = v .from m f;
-            field = f;
-            step = by Below is;
-            rest = held-below promise held in-row from to (is-below (lowOf R (v .order m) f) (highOf R (v .order m) f) (getD h f 0) is);
-          }
-      go Above is =
-          record {
-            start = v .to m f;
-            end = e;
-            field = f;
-            step = by Above is;
-            rest = held-above promise held in-row from to (is-above (lowOf R (v .order m) f) (highOf R (v .order m) f) (getD h f 0) is);
-          }
-      go Inside is =
-          record {
-            start = v .from m f;
-            end = v .to m f;
-            field = f + 1;
-            step = by Inside is;
-            rest = held-inside promise held in-row from to (is-inside (lowOf R (v .order m) f) (highOf R (v .order m) f) (getD h f 0) is);
-          }
-
-  pub walk-finds : (q k s e f t : ℕ) → (e - s) + (fieldsOf R - f) < k → f ≤ fieldsOf R → Held R v h q s e f → Finds R v h q (walkFrom R v h k s e f t)
-  walk-finds q zero s e f t enough in-row held = absurd (omega arith)
-  walk-finds q (suc k) s e f t enough in-row held = go (ltb s e) refl (ltb f (fieldsOf R)) refl (walk-finds q k)
-    where
-      go : (o : Bool) → ltb s e ≡ o → (p : Bool) → ltb f (fieldsOf R) ≡ p
-          → ((s e f t : ℕ) → (e - s) + (fieldsOf R - f) < k → f ≤ fieldsOf R → Held R v h q s e f → Finds R v h q (walkFrom R v h k s e f t))
-          → Finds R v h q (walkFrom R v h (suc k) s e f t)
-      -- an empty group: nothing fits
-      go false is-o p is-p rest =
-          let none = ltb-false s e is-o in
-          record {
-            found = Miss;
-            tests = t;
-            is = walk-empty R v h k s e f t none;
-            finds = λ r in-r fit. let at = held .covers r in-r fit in absurd (omega (arith, at .0, at .1));
-          }
-      -- field d: what fits is the place that is left
-      go true is-o false is-p rest =
-          let some = ltb-true s e is-o in
-          let at-end : f ≡ fieldsOf R = omega (arith, ltb-false f (fieldsOf R) is-p) in
-          let last = rw at-end at held in
-          let one = one-left promise last some in
-          record {
-            found = Hit (v .order s);
-            tests = t;
-            is = walk-arrives R v h k s e f t some (omega arith) ∙ arrived-yes R v h s e t one (last-rule promise last some) (last-fits promise last some);
-            finds = λ r in-r fit.
-                let at = held .covers r in-r fit in
-                let is-s : s ≡ r = omega (arith, at .0, at .1, one) in
-                ap (λ p. Hit (v .order p)) is-s;
-          }
-      -- a test, and the walk on what it leaves
-      go true is-o true is-p rest =
-          let some = ltb-true s e is-o in
-          let row = ltb-true f (fieldsOf R) is-p in
-          let l = test-leaves q s e f (midOf s e) held row (omega arith) (omega arith) in
-          let less = step-smaller R v h (fieldsOf R) s e f (l .start) (l .end) (l .field) some row (l .step) in
-          finds-by (walk-on R v h k s e f t some row (l .start) (l .end) (l .field) (l .step))
-          (rest (l .start) (l .end) (l .field) (t + 1) (omega (arith, less .falls)) (less .field) (l .rest))
+  last-rule = placed-rule promise q s (held-part held s (omega arith) some)

@@ -9,15 +9,18 @@
 -- Visits: a partition, and all of them in order.
 -- Lookups: the refusals of the opening, and the search of a table that opens.
 -- What follows of the lookup, by its definition alone:
--- Answers: a rule returned fits.
+-- Returned: a rule returned fits.
 -- Unread: numbers past d are unread.
 -- Refusing: when a lookup refuses, and with what.
--- Groups: a walk through a partition of a table that keeps the promise.
+-- Groups: what holds of a group of places of a table that keeps the promise, and that a test keeps it.
+-- Finds: a walk through a partition of such a table finds the rule that fits.
 -- Firsts: the lookup in such a table is first match.
 -- Totals: the count is the sum, at most d + k a partition.
 -- Reached: the bound is reached.
 -- Theorems: the headline statements under the three demands.
--- Cases: the marked cases. Determined: any two results allowed are equal.
+-- Cases: the marked cases.
+-- Answers: what an answer says tells it apart from every other.
+-- Determined: any two results allowed are equal.
 pub mod Within
 pub mod Steps
 pub mod Arrivals
@@ -27,13 +30,15 @@ pub mod Packing
 pub mod Counts
 pub mod Visits
 pub mod Lookups
-pub mod Answers
+pub mod Returned
 pub mod Unread
 pub mod Refusing
 pub mod Groups
+pub mod Finds
 pub mod Firsts
 pub mod Totals
 pub mod Reached
 pub mod Theorems
 pub mod Cases
+pub mod Answers
 pub mod Determined

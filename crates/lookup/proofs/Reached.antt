@@ -7,24 +7,24 @@
 --     ladder-reaches                                            its lookup makes d + k tests
 -- Assumes nothing.
 use Prim.Native.Nat.{ℕ, zero, suc, _+_, _-_, _*_, _/_, min, _≤_, _<_}
-use mathlib.Core.Bool.{Bool, true, false, not}
+use mathlib.Core.Bool.{Bool, true, false}
 use mathlib.Core.Path.{_≡_, refl, sym, ap, _∙_}
 use native.Mathlib.Omega.{arith}
 use native.Mathlib.Nat.{mul-assoc, mul-div-cancel, div-eq-of-lt-le}
 use lib.ListN.{getD, getD-replicate}
 use lib.Dec.{ltb}
 use lib.Pow.{pow-pos}
-use borrow.Author.Tests.{lt-ltb, le-ltb, lt-leb, ltb-true, ltb-false}
+use borrow.Author.Tests.{lt-ltb, ltb-true, ltb-false}
 use Rattle.ranges.specs.Numbers.{least}
 use Rattle.ranges.specs.Refusals.{none}
 use Rattle.ranges.specs.Sides.{isInside}
 use Rattle.ranges.specs.declared.side.Side.{Side}
 use Rattle.ranges.specs.declared.side.Side.the-variants.{Below, Inside}
-use Rattle.ranges.proofs.Numbers.{all-yes, least-none, tab-length, tab-at}
+use Rattle.ranges.proofs.Numbers.{all-yes, tab-length, tab-at}
 use Rattle.ranges.proofs.Sides.{past-high, within-high, side-below, side-inside}
-use Rattle.lists.specs.Rules.{Rules, fieldsOf, rulesIn, cellOf, lowOf, highOf, endsAt, isVoid}
+use Rattle.lists.specs.Rules.{rulesIn, cellOf, lowOf, highOf}
 use Rattle.lists.specs.FirstMatch.{sideAt, insideAt, fits}
-use Rattle.lists.specs.Faults.{shapeFault, soundRule, badRule, endsFault, listFault}
+use Rattle.lists.specs.Faults.{shapeFault, listFault}
 use Rattle.lists.proofs.Rules.{row-inside}
 use Rattle.lists.proofs.Faults.{shape-stands, shaped}
 use Rattle.sorting.specs.Layout.{View}
@@ -65,19 +65,20 @@ module _ (d m : ℕ) (some : 1 ≤ d) where
       let pos : 0 < d * 2 = omega arith in
       ap (λ n. n / (d * 2)) (tab-length (λ c. c / (d * 2)) (m * d * 2) ∙ mul-assoc m d 2) ∙ mul-div-cancel m pos
 
+  -- every number of rule i's row is i
+  ladder-at : (i f r c : ℕ) → i < m → f < d → r < 2 → c ≡ (i * d + f) * 2 + r → getD (ladder d m .numbers) c 0 ≡ i
+  ladder-at i f r c rule in-row end is =
+      let inside : c < m * d * 2 = omega (arith, row-inside d i m f rule in-row) in
+      let at : c ≡ i * (d * 2) + (f * 2 + r) = omega arith in
+      tab-at (λ c. c / (d * 2)) (m * d * 2) c inside ∙ ap (λ c. c / (d * 2)) at ∙ row-over d i (f * 2 + r) (omega arith)
+
   pub ladder-low : (i f : ℕ) → i < m → f < d → lowOf (ladder d m) i f ≡ i
   unfolding lowOf cellOf
-  ladder-low i f rule in-row =
-      let inside : (i * d + f) * 2 < m * d * 2 = omega (arith, row-inside d i m f rule in-row) in
-      let at : (i * d + f) * 2 ≡ i * (d * 2) + f * 2 = omega arith in
-      tab-at (λ c. c / (d * 2)) (m * d * 2) ((i * d + f) * 2) inside ∙ ap (λ c. c / (d * 2)) at ∙ row-over d i (f * 2) (omega arith)
+  ladder-low i f rule in-row = ladder-at i f 0 ((i * d + f) * 2) rule in-row (omega arith) (omega arith)
 
   pub ladder-high : (i f : ℕ) → i < m → f < d → highOf (ladder d m) i f ≡ i
   unfolding highOf cellOf
-  ladder-high i f rule in-row =
-      let inside : (i * d + f) * 2 + 1 < m * d * 2 = omega (arith, row-inside d i m f rule in-row) in
-      let at : (i * d + f) * 2 + 1 ≡ i * (d * 2) + (f * 2 + 1) = omega arith in
-      tab-at (λ c. c / (d * 2)) (m * d * 2) ((i * d + f) * 2 + 1) inside ∙ ap (λ c. c / (d * 2)) at ∙ row-over d i (f * 2 + 1) (omega arith)
+  ladder-high i f rule in-row = ladder-at i f 1 ((i * d + f) * 2 + 1) rule in-row (omega arith) (omega arith)
 
   pub ladder-sound : Sound (ladder d m)
   ladder-sound =

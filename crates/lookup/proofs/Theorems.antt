@@ -53,7 +53,7 @@ use Rattle.lookup.specs.Lookup.{visitOf, answerOf, lookupOf, matchIn, te
 use Rattle.lookup.specs.Bounds.{PowerWithin, testsOf, sumFrom, refuses, ladder, zeros}
 use Rattle.lookup.specs.declared.walk.Walked.the-variants.{Broken}
 use Rattle.lookup.specs.declared.lookup.Looked.the-variants.{Rule, Nothing, Refused}
-use Rattle.lookup.proofs.Answers.{rule-fits}
+use Rattle.lookup.proofs.Returned.{rule-fits}
 use Rattle.lookup.proofs.Unread.{Agree, lookup-same}
 use Rattle.lookup.proofs.Refusing.{RefusedBy, refused-by, lookup-broken, lookup-fine}
 use Rattle.lookup.proofs.Lookups.{lookup-refused}

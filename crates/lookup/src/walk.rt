@@ -150,9 +150,10 @@ fn arrive(
     Walked::Ran(Found::Hit(rule), tests)
 }
 
-// What stands for a broken table, and for a miss, where an answer's rule number would stand.
+// What stands for a broken table where an answer's rule number would stand.
 const NO_ANSWER: u32 = 65535;
 
+// What stands for a miss there.
 const NO_RULE: u32 = 65534;
 
 // Gives a walk's answer as one number: 65536 times the rule number, or what stands for it, and the tests. A number comes

@@ -5,20 +5,20 @@
 --     Grown, grown-start, grown-odd, grown-past, grown-more, grown-full      the search by doubling: its invariant, its ways out, its turn
 --     high-few, low-few, size-few, size-some         what fits a machine's number
 -- Assumes nothing.
-use Prim.Native.Nat.{ℕ, zero, suc, _+_, _-_, _*_, _%_, _^_, _≤_, _<_}
+use Prim.Native.Nat.{ℕ, suc, _+_, _-_, _*_, _%_, _^_, _≤_, _<_}
 use mathlib.Core.Bool.{Bool, true, false}
 use mathlib.Core.Path.{_≡_, refl, sym, ap, _∙_, subst}
 use native.Mathlib.Omega.{arith}
 use native.Mathlib.Nat.{mod-one, le-trans, le-of-eq, lt-of-lt-of-le}
 use lib.Dec.{leb, eqb}
 use lib.Bits.{bitAnd}
-use lib.Pow.{pow-pos, pow-mono, pow-lt}
+use lib.Pow.{pow-pos, pow-mono}
 use borrow.Author.Tests.{eq-eqb, le-leb, eqb-true, leb-true}
-use Rattle.ranges.specs.Numbers.{_and_, greatest}
+use Rattle.ranges.specs.Numbers.{_and_}
 use Rattle.ranges.specs.Sides.{endOf}
 use Rattle.ranges.specs.Blocks.{blockFits, blockOf, Ranged}
 use Rattle.ranges.proofs.Numbers.{and-left, and-right, greatest-is, greatest-holds}
-use Rattle.ranges.proofs.Sides.{past-high, high-within, within-high}
+use Rattle.ranges.proofs.Sides.{high-within, within-high}
 use Rattle.ranges.proofs.Widths.{masked, aligned-fewer, pow-more}
 
 -- ---- when a block fits

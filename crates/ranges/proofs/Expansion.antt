@@ -3,19 +3,16 @@
 --     firstOf, nextOf                      the first prefix of a range, and where the next one starts
 --     prefixes-done, prefixes-more         the two laws
 -- Assumes nothing.
-use Prim.Native.Nat.{ℕ, zero, suc, _+_, _-_, _%_, _^_, _≤_, _<_}
+use Prim.Native.Nat.{ℕ, zero, suc, _+_, _-_, _^_, _≤_, _<_}
 use mathlib.Core.Bool.{Bool, true, false}
-use mathlib.Core.List.{List, [], _∷_}
+use mathlib.Core.List.{[], _∷_}
 use mathlib.Core.Path.{_≡_, refl, sym, ap, _∙_}
 use native.Mathlib.Omega.{arith}
 use lib.Dec.{leb}
 use lib.Pow.{pow-pos}
 use borrow.Author.Tests.{le-leb, lt-leb, leb-true, leb-false}
-use Rattle.ranges.specs.Numbers.{pick}
 use Rattle.ranges.specs.Sides.{endOf}
-use Rattle.ranges.specs.Blocks.{Prefix, blockFits, blockOf, prefixesFrom, prefixesOf}
-use Rattle.ranges.proofs.Numbers.{greatest-holds}
-use Rattle.ranges.proofs.Blocks.{fits-one, fits-at}
+use Rattle.ranges.specs.Blocks.{Prefix, blockOf, prefixesFrom, prefixesOf}
 
 -- the first prefix of a range
 abbrev pub firstOf : ℕ → ℕ → ℕ → Prefix

@@ -6,19 +6,19 @@
 use Prim.Native.Nat.{ℕ, zero, suc, _+_, _-_, _*_, _%_, _^_, _≤_, _<_}
 use mathlib.Core.Bool.{Bool, true, false}
 use mathlib.Core.List.{List, [], _∷_}
-use mathlib.Core.Path.{_≡_, refl, sym, ap, _∙_, subst}
+use mathlib.Core.Path.{_≡_, refl, sym, ap, _∙_}
 use native.Mathlib.Omega.{arith}
 use mathlib.Core.Logic.{⊎-elim, _⊎_, inl, inr}
 use native.Mathlib.Nat.{lt-of-not-le, not-le-of-lt, eq-or-lt-of-le, mod-eq-of-lt, zero-mod, mod-one, zero-add}
 use lib.ListN.{length}
-use lib.Dec.{ltb, leb, eqb}
+use lib.Dec.{ltb}
 use lib.Pow.{pow-pos, pow-mono}
-use borrow.Author.Tests.{ltb-true, ltb-false, leb-true, leb-false}
+use borrow.Author.Tests.{ltb-true, ltb-false}
 use Rattle.ranges.specs.Sides.{endOf}
 use Rattle.ranges.specs.Blocks.{Prefix, Ranged, blockOf, prefixesOf}
-use Rattle.ranges.proofs.Sides.{past-high, high-within}
+use Rattle.ranges.proofs.Sides.{past-high}
 use Rattle.ranges.proofs.Widths.{aligned-fewer, aligned-on, aligned-less, pow-more}
-use Rattle.ranges.proofs.Blocks.{fits-yes, block-at, block-narrow, block-largest}
+use Rattle.ranges.proofs.Blocks.{fits-yes, block-at, block-largest}
 use Rattle.ranges.proofs.Expansion.{firstOf, nextOf, prefixes-done, prefixes-more}
 use Rattle.ranges.proofs.Cover.{prefixes-ind}
 

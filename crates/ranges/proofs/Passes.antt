@@ -3,7 +3,7 @@
 --     Written, written-start, written-more, written-end      writing: these are written, and these are left
 -- Each turn takes the largest block off what is left (`Expansion.antt`), so the number at which it starts rises by one at least.
 -- Assumes nothing.
-use Prim.Native.Nat.{ℕ, zero, suc, _+_, _-_, _*_, _^_, _≤_, _<_}
+use Prim.Native.Nat.{ℕ, suc, _+_, _-_, _*_, _^_, _≤_, _<_}
 use mathlib.Core.List.{List, [], _∷_, _++_, append-assoc, append-nil}
 use mathlib.Core.Path.{_≡_, refl, sym, ap, _∙_, subst}
 use native.Mathlib.Omega.{arith}

@@ -3,17 +3,14 @@
 --     bounds-10-long, bounds-10-value, bounds-10-bit 10
 --     bounds-are                                     the range
 -- Assumes nothing.
-use Prim.Native.Nat.{ℕ, _+_, _-_, _%_, _^_, _≤_, _<_}
-use mathlib.Core.Bool.{Bool, true, false, not}
-use mathlib.Core.Path.{_≡_, refl, sym, ap, _∙_}
+use Prim.Native.Nat.{ℕ, _-_, _%_, _^_, _≤_, _<_}
+use mathlib.Core.Path.{_≡_}
 use native.Mathlib.Omega.{arith}
-use lib.Dec.{ltb, leb, eqb}
-use lib.Pow.{le-ones, lt-of-le-ones, suc-ones}
+use lib.Pow.{suc-ones}
 use borrow.Author.Tests.{lt-ltb, le-ltb, le-leb, lt-leb, eq-eqb, ne-eqb}
 use Rattle.ranges.specs.Numbers.{pick, _or_}
-use Rattle.ranges.specs.Refusals.{none, refused, stands, BadWidth, BadPrefix}
+use Rattle.ranges.specs.Refusals.{none, refused, BadWidth, BadPrefix}
 use Rattle.ranges.specs.Prefixes.{badPrefix, prefixFault, lastOf, boundsOf}
-use Rattle.ranges.specs.declared.prefix.Bounds.{Bounds}
 use Rattle.ranges.specs.declared.prefix.Bounds.the-variants.{Are, Refused}
 
 -- what k ones bound from below needs more than k bits

@@ -12,12 +12,11 @@
 --     T5  side-says                the three outcomes of the range test, and what each says
 -- Assumes nothing.
 use Prim.Native.Nat.{ℕ, _+_, _-_, _*_, _/_, _%_, _^_, _≤_, _<_}
-use mathlib.Core.Bool.{true}
 use mathlib.Core.List.{List, _++_}
 use mathlib.Core.Logic.{⊎-elim, _⊎_, _↔_}
 use mathlib.Core.Path.{_≡_, sym, ap, _∙_}
 use native.Mathlib.Omega.{arith}
-use native.Mathlib.Nat.{div-add-mod', mod-lt, mul-le-mul-right}
+use native.Mathlib.Nat.{div-add-mod', mod-lt}
 use lib.ListN.{length, getD, drop}
 use lib.Arith.{digits-div}
 use lib.Pow.{pow-pos}

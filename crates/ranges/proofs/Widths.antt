@@ -6,7 +6,7 @@
 --     pow-more                       twice a power is the next
 -- Assumes nothing.
 use Prim.Native.Nat.{ℕ, zero, suc, _+_, _-_, _*_, _/_, _%_, _^_, _≤_, _<_}
-use mathlib.Core.Path.{_≡_, refl, sym, ap, _∙_, subst}
+use mathlib.Core.Path.{_≡_, sym, ap, _∙_, subst}
 use native.Mathlib.Omega.{arith}
 use native.Mathlib.Nat.{one-mul, zero-mul, zero-mod, mod-eq-of-lt, mod-lt, mod-self, mod-add-mod, add-mod-right, pow-suc, div-add-mod', mul-le-mul-right, sub-add-cancel, add-comm}
 use native.Mathlib.Numerals.{add-one}

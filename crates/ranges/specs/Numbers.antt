@@ -1,11 +1,11 @@
--- What a test says of the numbers below n: whether all pass, how many pass, which is the least; and the list of
--- a function's values. Every layer's definitions are put together from these; proofs use their laws
+-- What a test says of the numbers below n: whether all pass, how many pass, which is the least; the list of a
+-- function's values; and whether two lists are the same. Every layer's definitions are put together from these; proofs use their laws
 -- (`proofs/Numbers.antt`) and do not unfold them.
 -- Assumes nothing: these are definitions.
 use Prim.Native.Nat.{ℕ, zero, suc, _+_}
 use mathlib.Core.Bool.{Bool, true, false}
 use mathlib.Core.List.{List, [], _∷_, _++_}
-use lib.Dec.{ltb}
+use lib.Dec.{ltb, eqb}
 
 -- a where the test passed, else b
 abbrev pub pick {ℓ} : {A : Type ℓ} → Bool → A → A → A
@@ -53,3 +53,10 @@ greatest (suc n) P = pick (P n) n (greatest n P)
 unfoldable pub tab : ℕ → (ℕ → ℕ) → List ℕ
 tab zero f = []
 tab (suc n) f = tab n f ++ (f n ∷ [])
+
+-- the same numbers in the same order
+abbrev pub sameNumbers : List ℕ → List ℕ → Bool
+sameNumbers [] [] = true
+sameNumbers [] (y ∷ ys) = false
+sameNumbers (x ∷ xs) [] = false
+sameNumbers (x ∷ xs) (y ∷ ys) = eqb x y and sameNumbers xs ys

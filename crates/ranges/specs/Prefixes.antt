@@ -4,7 +4,7 @@
 -- Assumes nothing: these are definitions.
 use Prim.Native.Nat.{ℕ, _+_, _-_, _%_, _^_}
 use mathlib.Core.Bool.{Bool, not}
-use mathlib.Core.List.{List, [], _∷_}
+use mathlib.Core.List.{[], _∷_}
 use lib.Dec.{ltb, leb, eqb}
 use Rattle.ranges.specs.Numbers.{pick, _or_}
 use Rattle.ranges.specs.Refusals.{none, refused, stands, Said, saidOf, BadWidth, BadPrefix}

@@ -1,7 +1,6 @@
 -- `ranges::expand::largest_block` meets its contract. The loop's invariant: size is 2 ^ t, and the block of that size fits (`Grown`,
 -- in `Blocks.antt`, with the law of each way out and of a turn). The measure is what t is short of the width.
 -- Assumes nothing.
-use borrow.Author.Needs.{needs}
 use Prim.Native.Nat.{_-_}
 use mathlib.Core.Path.{sym}
 use native.Mathlib.Omega.{arith}

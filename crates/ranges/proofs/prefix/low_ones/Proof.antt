@@ -1,7 +1,7 @@
 -- `ranges::prefix::low_ones` meets its contract: below 32 the shift is 2 ^ k, and at 32 the number is written out.
 -- Assumes nothing.
 use borrow.Author.Needs.{needs}
-use Prim.Native.Nat.{ℕ, _-_, _^_, _<_}
+use Prim.Native.Nat.{_-_, _^_, _<_}
 use mathlib.Core.Path.{sym, ap}
 use native.Mathlib.Omega.{arith}
 use lib.Pow.{pow-pos}
