@@ -2,7 +2,6 @@
 #   build CHARACTER n d b PROVED PLAIN SORTED                                     nanoseconds of one build
 #   lookup CHARACTER n d b TESTS HITS PROVED RUST C SCAN C_SCAN ACL_MANY ACL_ONE   nanoseconds of one lookup; - where not measured
 #   gateway RULES HEADERS BYTES I_PROVED I_PLAIN T_PROVED T_PLAIN                 instructions, seconds
-#   absent gateway                                                                there is no such crate
 function ratio(a, b) { return b == "-" || b == "" ? "-" : a / b >= 100 ? grouped(a / b) : sprintf(a / b < 0.095 ? "%.3f" : "%.2f", a / b) }
 function per_second(ns) { return ns == "-" || ns == "" ? "-" : sprintf(1000 / ns < 1 ? "%.3f" : "%.2f", 1000 / ns) }
 function micro(ns) { return sprintf(ns < 1e5 ? "%.1f" : "%.0f", ns / 1000) }
@@ -14,7 +13,6 @@ $1 == "lookup" && $2 != "fields" && $2 != "partitions" { looks[++nl] = $0 }
 $1 == "lookup" && $2 == "fields" { fields[++nf] = $0 }
 $1 == "lookup" && $2 == "partitions" { parts[++np] = $0 }
 $1 == "gateway" { gateway = $0 }
-$1 == "absent" { absent = 1 }
 $1 == "lookup" {
     each = $8 / $6
     if (least == "" || each < least) least = each
@@ -93,5 +91,4 @@ END {
         print "|---|--:|--:|--:|--:|--:|--:|"
         printf "| `gateway_%d_rules_%d_headers` | **%s** | %s | %.0f million | %.0f million | %.2f | %.2f |\n\n", w[2], w[3], ratio(w[5], w[6]), ratio(w[7], w[8]), w[5] / 1e6, w[6] / 1e6, w[7], w[8]
     }
-    if (absent) print "## Program\n\nLeft out: there was no crate `gateway` when this was measured."
 }

@@ -20,32 +20,21 @@ static size_t length, table_length;
 static uint32_t headers[HEADERS][8];
 static volatile uint64_t kept; // what the passes add up, so that no call is left out
 
-static void pass_proved(void) {
+typedef struct plain_answer look(size_t d, const uint32_t *list, size_t length, const uint16_t *table, size_t table_length, const uint32_t *header);
+
+// Looks all headers up in one way; inlined into each pass, so that its call is a direct one.
+static inline __attribute__((always_inline)) void look_up_all(look *one) {
     uint64_t sum = 0;
     for (size_t k = 0; k < HEADERS; k++) {
-        struct plain_answer a = proved_lookup(list.d, list.numbers, length, table, table_length, headers[k]);
+        struct plain_answer a = one(list.d, list.numbers, length, table, table_length, headers[k]);
         sum += a.tests + (uint32_t)a.rule;
     }
     kept = sum;
 }
 
-static void pass_rust(void) {
-    uint64_t sum = 0;
-    for (size_t k = 0; k < HEADERS; k++) {
-        struct plain_answer a = rust_lookup(list.d, list.numbers, length, table, table_length, headers[k]);
-        sum += a.tests + (uint32_t)a.rule;
-    }
-    kept = sum;
-}
-
-static void pass_c(void) {
-    uint64_t sum = 0;
-    for (size_t k = 0; k < HEADERS; k++) {
-        struct plain_answer a = plain_lookup(list.d, list.numbers, length, table, table_length, headers[k]);
-        sum += a.tests + (uint32_t)a.rule;
-    }
-    kept = sum;
-}
+static void pass_proved(void) { look_up_all(proved_lookup); }
+static void pass_rust(void) { look_up_all(rust_lookup); }
+static void pass_c(void) { look_up_all(plain_lookup); }
 
 static void pass_proved_scan(void) {
     uint64_t sum = 0;
