@@ -28,7 +28,7 @@ use Rattle.lists.specs.FirstMatch.{firstMatch}
 use Rattle.sorting.specs.Table.{builtTable}
 use Rattle.lists.proofs.Sound.{list-shaped}
 use Rattle.lookup.specs.Lookup.{lookupOf, answerOf, testsIn}
-use Rattle.lookup.proofs.Theorems.{build-then-lookup}
+use Rattle.lookup.proofs.Theorems.{built-lookup}
 use Rattle.text.specs.Cells.{fed}
 use Rattle.text.specs.Rows.{allNumbers, numbersOf}
 use Rattle.text.proofs.Feeding.{fed-append}
@@ -125,4 +125,4 @@ line-first-match ls none l good count =
     let h = headerOf (cellsOf l) in
     row-looked R (builtTable R) (allNumbers (cellsOf l)) (length (cellsOf l)) h good count
     ∙ ap (λ k. lookedSaid (lookupOf R (builtTable R) k)) (header-eight (cellsOf l))
-    ∙ ap lookedSaid (build-then-lookup R (stands-checked ls none) h)
+    ∙ ap lookedSaid (built-lookup R (stands-checked ls none) h)

@@ -7,7 +7,7 @@ use Prim.Native.Nat.{ℕ}
 use mathlib.Core.Bool.{Bool, true}
 use mathlib.Core.List.{List, [], _∷_}
 use lib.Dec.{T}
-use Rattle.ranges.specs.Numbers.{_and_, sameNumbers, all, count, least, greatest, tab}
+use Rattle.ranges.specs.Numbers.{_and_, sameList, all, count, least, greatest, tab}
 use Rattle.ranges.specs.Refusals.{Said}
 use Rattle.ranges.specs.Sides.{endOf, sideOf}
 use Rattle.ranges.specs.Prefixes.{prefixFault, boundsOf, saysBounds}
@@ -35,7 +35,7 @@ row b found written = record { mark = b; found = found; written = written }
 
 abbrev hold : List Row → Bool
 hold [] = true
-hold (r ∷ rs) = sameNumbers (r .found) (r .written) and hold rs
+hold (r ∷ rs) = sameList (r .found) (r .written) and hold rs
 
 -- what is said, as numbers: a refusal's number and place, then what is answered
 abbrev numbers : Said → List ℕ

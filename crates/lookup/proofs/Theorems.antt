@@ -13,8 +13,8 @@
 --     2. The match is the first match.
 --        lookup-is-first-match            of a table that keeps the promise: never a refusal, and the first match
 --        none-fits, nothing-fits          none exactly when no rule fits
---        build-then-lookup                of the table that the build writes
---        choice-then-lookup               of the table of any choice of partitions
+--        build-then-lookup                of the table that a build left, for every list that it accepted
+--        built-lookup, choice-then-lookup of the table of first fit, and of any choice of partitions
 --     3. The count is the written walk's, and small.
 --        count-is-the-sum                 it is the sum of the partitions' tests
 --        partition-tests                  at most d + k in a partition of m rules, 2^k being the largest power of two within m
@@ -35,6 +35,7 @@ use borrow.Author.Tests.{le-ltb, ltb-false}
 use Rattle.ranges.specs.Numbers.{pick, least}
 use Rattle.ranges.specs.Refusals.{none, refused, BrokenTable}
 use Rattle.ranges.specs.declared.refusal.Refusal.{Refusal}
+use Rattle.ranges.specs.declared.refusal.Count.the-variants.{Is as CountIs}
 use Rattle.ranges.proofs.Numbers.{never, least-none, least-under}
 use Rattle.lists.specs.Rules.{Rules, fieldsOf, rulesIn}
 use Rattle.lists.specs.FirstMatch.{fits, firstMatch}
@@ -45,10 +46,12 @@ use Rattle.sorting.specs.FirstFit.{Choice, firstFit}
 use Rattle.sorting.specs.Opening.{viewOf, openFault}
 use Rattle.sorting.specs.Promise.{Promise}
 use Rattle.sorting.specs.Table.{tableOf, builtTable}
+use Rattle.sorting.specs.Build.{buildOf, tableAfter}
 use Rattle.lists.proofs.Sound.{list-sound, list-shaped}
 use Rattle.sorting.proofs.Reading.{table-sized}
 use Rattle.sorting.proofs.Kept.{choice-keeps-promise}
 use Rattle.sorting.proofs.Built.{built-keeps-promise, list-keeps-promise}
+use Rattle.sorting.proofs.Theorems.{build-is-b-iff, built-table}
 use Rattle.lookup.specs.Lookup.{visitOf, answerOf, lookupOf, matchIn, testsIn}
 use Rattle.lookup.specs.Bounds.{PowerWithin, testsOf, sumFrom, refuses, ladder, zeros}
 use Rattle.lookup.specs.declared.walk.Walked.the-variants.{Broken}
@@ -124,8 +127,16 @@ module _ (R : Rules) (fine : listFault R .number ≡ 0) where
   choice-then-lookup run b choice =
       lookup-is-first-match R (tableOf R run) (list-shaped R fine) (table-sized R run) (choice-keeps-promise (list-sound R fine) choice)
 
-  pub build-then-lookup : (h : List ℕ) → lookupOf R (builtTable R) h ≡ answerOf R (firstMatch R h) (testsIn (lookupOf R (builtTable R) h))
-  build-then-lookup = lookup-is-first-match R (builtTable R) (list-shaped R fine) (table-sized R (firstFit R (rulesIn R))) (list-keeps-promise R fine)
+  pub built-lookup : (h : List ℕ) → lookupOf R (builtTable R) h ≡ answerOf R (firstMatch R h) (testsIn (lookupOf R (builtTable R) h))
+  built-lookup = lookup-is-first-match R (builtTable R) (list-shaped R fine) (table-sized R (firstFit R (rulesIn R))) (list-keeps-promise R fine)
+
+-- whatever list and table a build was handed: where it answered a number of partitions, and so refused nothing, the table that it left
+-- gives every header its first match
+pub build-then-lookup : (R : Rules) (T : List ℕ) (b : ℕ) → buildOf R T ≡ CountIs b → (h : List ℕ)
+    → lookupOf R (tableAfter R T) h ≡ answerOf R (firstMatch R h) (testsIn (lookupOf R (tableAfter R T) h))
+build-then-lookup R T b answered h =
+    let able = build-is-b-iff R T b .0 answered .0 in
+    rw (built-table R T able) (built-lookup R (able .no-fault) h)
 
 -- ---- 3. the count is the written walk's, and small
 module _ (R : Rules) (T h : List ℕ) where
