@@ -21,7 +21,7 @@ use Rattle.lookup.specs.Walk.{runStands, stepAt, arrivedOf, walkFrom}
 use Rattle.lookup.specs.Lookup.{visitOf, lookupFrom, lookupOf}
 use Rattle.text.specs.Cells.{isDigit}
 use Rattle.text.specs.Texts.{bytes}
-use Rattle.text.specs.Puts.{decimalOf}
+use Rattle.text.specs.Decimals.{decimalOf}
 use Rattle.gateway.specs.RuleLines.{widthFault, cellsFault}
 use Rattle.gateway.specs.HeaderLines.{eightOf, rowSaid}
 use Rattle.gateway.specs.Program.{programOf}

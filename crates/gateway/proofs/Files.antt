@@ -9,7 +9,7 @@ use borrow.Author.Tests.{eqb-true, eqb-false, eq-eqb, ne-eqb}
 use lib.Dec.{eqb}
 use Rattle.ranges.specs.Numbers.{pick, _and_}
 use Rattle.text.specs.Cells.{fed}
-use Rattle.text.specs.Rows.{onto}
+use Rattle.text.specs.Rows.{inFront}
 use Rattle.gateway.specs.Files.{linesOf, Held, held, plain, step, settled, endOf, finish, overLines}
 
 -- the ways of a byte
@@ -49,7 +49,7 @@ module _ {X : Type 0} (byte : X → ℕ → X) where
 
 module _ {X : Type 0} (byte : X → ℕ → X) (close : X → X) (begun : X → Bool)
     (closed : (x : X) → endOf close begun (close x) ≡ close x) (begins : (x : X) (b : ℕ) → endOf close begun (byte x b) ≡ close (byte x b)) where
-  onto-over : (x : X) (b : ℕ) (ls : List (List ℕ)) → overLines byte close begun (byte x b) ls ≡ overLines byte close begun x (onto b ls)
+  onto-over : (x : X) (b : ℕ) (ls : List (List ℕ)) → overLines byte close begun (byte x b) ls ≡ overLines byte close begun x (inFront b ls)
   onto-over x b [] = begins x b ∙ sym (closed (byte x b))
   onto-over x b (l ∷ ls) = refl
 
@@ -73,11 +73,11 @@ module _ {X : Type 0} (byte : X → ℕ → X) (close : X → X) (begun : X → 
     where
       go : (s t : Bool) → eqb b 13 ≡ s → eqb c 10 ≡ t
           → finish byte close begun (fed (step byte close) (step byte close (pick s (held true x) (held false (byte x b))) c) bs)
-          ≡ overLines byte close begun x (pick (s and t) ([] ∷ linesOf bs) (onto b (linesOf (c ∷ bs))))
+          ≡ overLines byte close begun x (pick (s and t) ([] ∷ linesOf bs) (inFront b (linesOf (c ∷ bs))))
       go true true p q = rw (step-ends byte close (held true x) c refl (eqb-true c 10 q)) (after (close x))
       go true false p q =
           rw (step-lone byte close (held true x) c refl (eqb-false c 10 q), ← step-plain byte close (held false (byte x 13)) c refl)
-          (next (byte x 13) ∙ onto-over x 13 (linesOf (c ∷ bs)) ∙ ap (λ k. overLines byte close begun x (onto k (linesOf (c ∷ bs)))) (sym (eqb-true b 13 p)))
+          (next (byte x 13) ∙ onto-over x 13 (linesOf (c ∷ bs)) ∙ ap (λ k. overLines byte close begun x (inFront k (linesOf (c ∷ bs)))) (sym (eqb-true b 13 p)))
       go false t p q = next (byte x b) ∙ onto-over x b (linesOf (c ∷ bs))
 
   -- a file's bytes, read one by one from a line's start, are its lines read one by one

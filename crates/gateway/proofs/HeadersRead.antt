@@ -15,7 +15,7 @@ use lib.Seq.{sets, sets-eq, take-append-add, take-all, length-take-le}
 use Rattle.ranges.specs.Numbers.{pick, _and_}
 use Rattle.lists.specs.Rules.{Rules, fieldsOf}
 use Rattle.text.specs.Cells.{fed}
-use Rattle.text.specs.Rows.{fresh, rowWith, rowNext, keptAt, cellsIn, allNumbers, numbersOf, manyMore, Reading, begin, ended, within, readByte, readCells}
+use Rattle.text.specs.Rows.{fresh, rowWith, rowNext, keptAt, cellsIn, allNumbers, valuesOf, manyMore, Reading, begin, ended, within, readByte, readCells}
 use Rattle.text.proofs.Rows.{kept-long, row-is}
 use Rattle.text.proofs.Counted.{cells-good, cells-count, cells-run, cells-long, many-few, many-large}
 use Rattle.gateway.specs.Files.{linesOf, Held, held, step, endOf, finish, overLines}
@@ -69,7 +69,7 @@ zeros-take zero n le = refl
 zeros-take (suc k) zero le = absurd (omega arith)
 zeros-take (suc k) (suc n) le = ap (λ l. 0 ∷ l) (zeros-take k n (omega arith))
 
-numbers-length : (cs : List (List ℕ)) → length (numbersOf cs) ≡ length cs
+numbers-length : (cs : List (List ℕ)) → length (valuesOf cs) ≡ length cs
 numbers-length [] = refl
 numbers-length (c ∷ cs) = ap suc (numbers-length cs)
 
@@ -125,8 +125,8 @@ module _ (R : Rules) (T : List ℕ) (d : fieldsOf R ≤ 8) where
           let is : length cs ≡ fieldsOf R = eqb-true (length cs) (fieldsOf R) q in
           let few : length cs ≤ 8 = omega arith in
           let count : manyMore 0 cs ≡ length cs = omega (arith, many-few cs 0 (omega arith)) in
-          let short : length (numbersOf cs) ≤ 8 = omega (arith, numbers-length cs) in
-          let run : cellsRead cs .run ≡ headerOf cs = cells-run cs 0 (begin zeros) p (omega arith) ∙ front (numbersOf cs) short in
+          let short : length (valuesOf cs) ≤ 8 = omega (arith, numbers-length cs) in
+          let run : cellsRead cs .run ≡ headerOf cs = cells-run cs 0 (begin zeros) p (omega arith) ∙ front (valuesOf cs) short in
           ap (λ k. rowSaid R T (allNumbers cs) k (cellsRead cs .run)) count ∙ ap (rowSaid R T (allNumbers cs) (length cs)) run
 
   -- ---- a line, and lines one after the other

@@ -7,7 +7,7 @@ use mathlib.Core.Path.{_≡_}
 use native.Mathlib.Omega.{arith}
 use lib.ListN.{length, length-append}
 use Rattle.text.specs.Texts.{bytes}
-use Rattle.text.specs.Puts.{decimalOf}
+use Rattle.text.specs.Decimals.{decimalOf}
 use Rattle.text.proofs.Decimals.{decimal-short}
 use Rattle.gateway.specs.Said.{refusedSaid, testsSaid}
 

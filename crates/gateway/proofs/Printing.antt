@@ -17,7 +17,7 @@ use Rattle.text.specs.Rows.{fresh, rowWith, rowNext, keptAt}
 use Rattle.text.specs.Puts.{Put}
 use Rattle.text.specs.declared.row.Row.{Row}
 use Rattle.text.proofs.Rows.{kept-long}
-use Rattle.text.proofs.Puts.{put-length, put-place, put-fits}
+use Rattle.text.proofs.Puts.{put-long, put-place, put-fits}
 use Rattle.gateway.specs.Files.{Held, held, step}
 use Rattle.gateway.specs.HeaderLines.{rowSaid}
 use Rattle.gateway.specs.HeaderBytes.{HeadersAt, headersAt, headersHeld, headerState, noHeaders, headersByte, headersClose, Wrote, PrintedAt, PrintedFile}
@@ -35,7 +35,7 @@ module _ {out : List ℕ} {at : ℕ} where
       let place : next ≡ at + length bs = put-place put fits in
       let within : at ≤ length out = omega arith in
       let size : length (take at out ++ bs) ≡ next = rw (length-append, length-take-le at out within) (sym place) in
-      record { place = place; bytes = ap (take next) (put-fits put fits) ∙ take-at (take at out ++ bs) (drop (at + length bs) out) next size; long = put-length put }
+      record { place = place; bytes = ap (take next) (put-fits put fits) ∙ take-at (take at out ++ bs) (drop (at + length bs) out) next size; long = put-long put }
 
   pub wrote-then : {xs mid : List ℕ} {p : ℕ} {ys after : List ℕ} {q : ℕ} → Wrote out at xs mid p → Wrote mid p ys after q → Wrote out at (xs ++ ys) after q
   wrote-then {xs} {mid} {p} {ys} {after} {q} first second =

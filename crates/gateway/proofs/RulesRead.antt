@@ -19,7 +19,7 @@ use Rattle.lists.specs.Rules.{listed}
 use Rattle.lists.specs.Faults.{listFault}
 use Rattle.text.specs.Cells.{fed}
 use Rattle.text.specs.declared.row.Row.{Row}
-use Rattle.text.specs.Rows.{fresh, rowWith, rowNext, keptAt, allNumbers, numbersOf, manyMore, Reading, begin, ended, within, readByte, readCells}
+use Rattle.text.specs.Rows.{fresh, rowWith, rowNext, keptAt, allNumbers, valuesOf, manyMore, Reading, begin, ended, within, readByte, readCells}
 use Rattle.text.proofs.Rows.{kept-long, row-is}
 use Rattle.text.proofs.Counted.{cells-good, cells-count, cells-run, cells-long, many-few, many-large, many-parity}
 use Rattle.gateway.specs.Files.{linesOf, Held, held, step, endOf, finish, overLines}
@@ -174,13 +174,13 @@ module _ (i w : ℕ) (few : i < 1024) (narrow : w ≤ 16) (l list : List ℕ) wh
     count-is : readTo .row .cells ≡ length (cellsOf l)
     count-is = cells-count (i * w) (begin list) (cellsOf l) ∙ omega (arith, many-few (cellsOf l) 0 (omega (arith, short)))
 
-    run-is : readTo .run ≡ sets list (i * w) (numbersOf (cellsOf l))
+    run-is : readTo .run ≡ sets list (i * w) (valuesOf (cellsOf l))
     run-is =
         let same : i * w + 0 ≡ i * w = omega arith in
-        cells-run (cellsOf l) (i * w) (begin list) (fine .numbers) (omega (arith, short)) ∙ ap (λ k. sets list k (numbersOf (cellsOf l))) same
+        cells-run (cellsOf l) (i * w) (begin list) (fine .numbers) (omega (arith, short)) ∙ ap (λ k. sets list k (valuesOf (cellsOf l))) same
 
     line-fine : rulesClose (fed rulesByte (rulesAt (ruleState false fresh i w 0) list) l)
-        ≡ rulesAt (ruleState false fresh (i + 1) (length (cellsOf l)) 0) (sets list (i * w) (numbersOf (cellsOf l)))
+        ≡ rulesAt (ruleState false fresh (i + 1) (length (cellsOf l)) 0) (sets list (i * w) (valuesOf (cellsOf l)))
     line-fine =
         line-judged i w few l list
         ∙ ap (λ r. rulesAt r (readTo .run)) (sym (judged-fine (ruleState false fresh i w 0) (readTo .row) fault-is none))
@@ -188,7 +188,7 @@ module _ (i w : ℕ) (few : i < 1024) (narrow : w ≤ 16) (l list : List ℕ) wh
         ∙ ap (rulesAt (ruleState false fresh (i + 1) (length (cellsOf l)) 0)) run-is
 
 -- ---- lines one after the other
-numbers-length : (cs : List (List ℕ)) → length (numbersOf cs) ≡ length cs
+numbers-length : (cs : List (List ℕ)) → length (valuesOf cs) ≡ length cs
 numbers-length [] = refl
 numbers-length (c ∷ cs) = ap suc (numbers-length cs)
 
@@ -235,7 +235,7 @@ first-none f g none = rw (eq-eqb f 0 none)
 
 -- a line that stands, before lines that come to something
 come-fine : (w i : ℕ) (acc : List ℕ) (l : List ℕ) (ls : List (List ℕ)) (y : RulesAt) → lineFault i w (cellsOf l) ≡ 0
-    → Come w (suc i) (acc ++ numbersOf (cellsOf l)) ls y → Come w i acc (l ∷ ls) y
+    → Come w (suc i) (acc ++ valuesOf (cellsOf l)) ls y → Come w i acc (l ∷ ls) y
 come-fine w i acc l ls y none rest =
     let is : linesFault i w (l ∷ ls) ≡ linesFault (suc i) w ls = first-none (lineFault i w (cellsOf l)) (linesFault (suc i) w ls) none in
     let count : suc i + length ls ≡ i + suc (length ls) = omega arith in
@@ -243,7 +243,7 @@ come-fine w i acc l ls y none rest =
       fault = rest .fault ∙ sym is;
       lines = λ e. rest .lines (sym is ∙ e) ∙ count;
       width = λ e. rest .width (sym is ∙ e);
-      numbers = λ e. ap (λ k. take (k * w) (y .list)) (sym count) ∙ rest .numbers (sym is ∙ e) ∙ append-assoc acc (numbersOf (cellsOf l)) (listOf ls);
+      numbers = λ e. ap (λ k. take (k * w) (y .list)) (sym count) ∙ rest .numbers (sym is ∙ e) ∙ append-assoc acc (valuesOf (cellsOf l)) (listOf ls);
       long = λ e. rest .long (sym is ∙ e);
       few = λ e. let le = rest .few (sym is ∙ e) in omega arith;
     }
@@ -284,11 +284,11 @@ module _ (w i v : ℕ) (acc l : List ℕ) (ls : List (List ℕ)) (list : List �
 
     -- a line that stands
     come-good : (none : cellsFault i v (allNumbers (cellsOf l)) (length (cellsOf l)) ≡ 0)
-        → Come w (suc i) (acc ++ numbersOf (cellsOf l)) ls
-        (readOn (rulesAt (ruleState false fresh (i + 1) (length (cellsOf l)) 0) (sets list (i * v) (numbersOf (cellsOf l)))) ls)
+        → Come w (suc i) (acc ++ valuesOf (cellsOf l)) ls
+        (readOn (rulesAt (ruleState false fresh (i + 1) (length (cellsOf l)) 0) (sets list (i * v) (valuesOf (cellsOf l)))) ls)
         → Come w i acc (l ∷ ls) lineOn
     come-good none rest =
-        let goes : lineOn ≡ readOn (rulesAt (ruleState false fresh (i + 1) (length (cellsOf l)) 0) (sets list (i * v) (numbersOf (cellsOf l)))) ls
+        let goes : lineOn ≡ readOn (rulesAt (ruleState false fresh (i + 1) (length (cellsOf l)) 0) (sets list (i * v) (valuesOf (cellsOf l)))) ls
         = ap (λ x. readOn x ls) (line-fine i v few narrow l list none) in
         subst (Come w i acc (l ∷ ls)) (sym goes) (come-fine w i acc l ls _ (fault-here ∙ none) rest)
 
@@ -319,7 +319,7 @@ module _ (w : ℕ) (narrow : w ≤ 16) where
       by-fault few true e =
           let none = eqb-true (cellsFault i w (allNumbers (cellsOf l)) (length (cellsOf l))) 0 e in
           let same : length (cellsOf l) ≡ w = fine i w few narrow l list none .later (λ z. omega arith) in
-          let ns = numbersOf (cellsOf l) in
+          let ns = valuesOf (cellsOf l) in
           let left = sets list (i * w) ns in
           let kept : length left ≡ 16384 = length-sets list (i * w) ns ∙ size in
           let taken = taken-line i w list ns few narrow size (numbers-length (cellsOf l) ∙ same) in
@@ -355,7 +355,7 @@ all-lines l ls list size = by-fault (eqb (cellsFault 0 0 (allNumbers (cellsOf l)
         let none = eqb-true (cellsFault 0 0 (allNumbers (cellsOf l)) (length (cellsOf l))) 0 e in
         let zero-few : 0 < 1024 = omega arith in
         let narrow : length (cellsOf l) ≤ 16 = short 0 0 zero-few (omega arith) l list none in
-        let ns = numbersOf (cellsOf l) in
+        let ns = valuesOf (cellsOf l) in
         let left = sets list (0 * 0) ns in
         let kept : length left ≡ 16384 = length-sets list (0 * 0) ns ∙ size in
         let none-yet : 0 * length (cellsOf l) ≡ 0 = omega arith in

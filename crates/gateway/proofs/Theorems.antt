@@ -30,7 +30,7 @@ use Rattle.lists.proofs.Sound.{list-shaped}
 use Rattle.lookup.specs.Lookup.{lookupOf, answerOf, testsIn}
 use Rattle.lookup.proofs.Theorems.{built-lookup}
 use Rattle.text.specs.Cells.{fed}
-use Rattle.text.specs.Rows.{allNumbers, numbersOf}
+use Rattle.text.specs.Rows.{allNumbers, valuesOf}
 use Rattle.text.proofs.Feeding.{fed-append}
 use Rattle.gateway.specs.Files.{linesOf}
 use Rattle.gateway.specs.Said.{headSaid, refusedSaid, lookedSaid}
@@ -104,8 +104,8 @@ rules-without-headers rb none = answers-all rb [] none ∙ append-nil headSaid
 -- a header's eight numbers are the line's numbers and zeros past them
 header-long : (cells : List (List ℕ)) → length (headerOf cells) ≡ 8
 header-long cells =
-    let size : length (numbersOf cells ++ zeros) ≡ length (numbersOf cells) + 8 = length-append (numbersOf cells) zeros in
-    length-take-le 8 (numbersOf cells ++ zeros) (omega arith)
+    let size : length (valuesOf cells ++ zeros) ≡ length (valuesOf cells) + 8 = length-append (valuesOf cells) zeros in
+    length-take-le 8 (valuesOf cells ++ zeros) (omega arith)
 
 header-eight : (cells : List (List ℕ)) → eightOf (headerOf cells) ≡ headerOf cells
 unfolding eightOf

@@ -10,14 +10,14 @@ use mathlib.Core.List.{List, [], _∷_}
 use lib.Dec.{eqb}
 use Rattle.ranges.specs.Numbers.{pick, _and_}
 use Rattle.text.specs.Cells.{fed}
-use Rattle.text.specs.Rows.{onto}
+use Rattle.text.specs.Rows.{inFront}
 
 -- ---- a whole file
 -- the lines of a file; what follows the last CRLF, if anything, is a last line
 abbrev pub linesOf : List ℕ → List (List ℕ)
 linesOf [] = []
 linesOf (b ∷ []) = (b ∷ []) ∷ []
-linesOf (b ∷ c ∷ bs) = pick (eqb b 13 and eqb c 10) ([] ∷ linesOf bs) (onto b (linesOf (c ∷ bs)))
+linesOf (b ∷ c ∷ bs) = pick (eqb b 13 and eqb c 10) ([] ∷ linesOf bs) (inFront b (linesOf (c ∷ bs)))
 
 -- ---- byte by byte
 -- a reader's state, and whether the last byte was a CR of which it is not known yet whether it ends the line

@@ -10,7 +10,7 @@ use Rattle.ranges.specs.Numbers.{pick}
 use Rattle.ranges.specs.Refusals.{numberOf, BadLine}
 use Rattle.lists.specs.Rules.{Rules, fieldsOf}
 use Rattle.lookup.specs.Lookup.{lookupOf}
-use Rattle.text.specs.Rows.{allNumbers, numbersOf}
+use Rattle.text.specs.Rows.{allNumbers, valuesOf}
 use Rattle.gateway.specs.RuleLines.{cellsOf}
 use Rattle.gateway.specs.Said.{refusedSaid, lookedSaid}
 
@@ -29,7 +29,7 @@ rowSaid R T good k header =
 
 -- the header of a line's cells: their numbers, and zeros past them
 abbrev pub headerOf : List (List ℕ) → List ℕ
-headerOf cells = take 8 (numbersOf cells ++ zeros)
+headerOf cells = take 8 (valuesOf cells ++ zeros)
 
 -- what is printed for a line
 abbrev pub lineSaid : Rules → List ℕ → List ℕ → List ℕ

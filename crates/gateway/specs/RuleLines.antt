@@ -13,7 +13,7 @@ use Rattle.ranges.specs.Numbers.{pick}
 use Rattle.ranges.specs.Refusals.{numberOf, BadFields, BadLine, TooManyRules}
 use Rattle.lists.specs.Rules.{Rules, listed}
 use Rattle.lists.specs.Faults.{listFault}
-use Rattle.text.specs.Rows.{cellsIn, allNumbers, numbersOf}
+use Rattle.text.specs.Rows.{cellsIn, allNumbers, valuesOf}
 
 -- the cells of a line, parted by commas
 abbrev pub cellsOf : List ℕ → List (List ℕ)
@@ -48,7 +48,7 @@ widthOf (l ∷ ls) = length (cellsOf l)
 -- the numbers of all lines, one after the other
 abbrev pub listOf : List (List ℕ) → List ℕ
 listOf [] = []
-listOf (l ∷ ls) = numbersOf (cellsOf l) ++ listOf ls
+listOf (l ∷ ls) = valuesOf (cellsOf l) ++ listOf ls
 
 -- the list of rules: half as many fields as cells
 abbrev pub rulesOf : List (List ℕ) → Rules

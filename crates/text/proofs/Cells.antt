@@ -1,17 +1,17 @@
 -- Laws of a cell read byte by byte (`specs/Cells.antt`), and the statement that it comes to what 01 says of its bytes.
 --     digit-empty, digit-zero, digit-large, digit-more, digit-bad     one digit more
 --     byte-low, byte-high, byte-digit                                 one byte more
---     cell-is                                                         all bytes: `cellOf`
+--     cell-is                                                         all bytes: `wholeCell`
 -- Assumes nothing.
 use Prim.Native.Nat.{ℕ, _+_, _-_, _*_, _≤_, _<_}
-use mathlib.Core.Bool.{Bool, true, false, not}
+use mathlib.Core.Bool.{Bool, true, false}
 use mathlib.Core.List.{List, [], _∷_}
-use mathlib.Core.Path.{_≡_, refl, sym, ap, _∙_}
+use mathlib.Core.Path.{_≡_, refl, sym, _∙_}
 use native.Mathlib.Omega.{arith}
 use borrow.Author.Tests.{lt-ltb, le-ltb, le-leb, lt-leb, eq-eqb, ne-eqb, ltb-true, ltb-false, leb-true, leb-false, eqb-true, eqb-false}
 use lib.Dec.{ltb, leb, eqb}
 use Rattle.ranges.specs.Numbers.{pick, _and_}
-use Rattle.text.specs.Cells.{fed, isDigit, allDigits, leadingZero, valueFrom, valueOf, readable, cellOf, withDigit, withByte}
+use Rattle.text.specs.Cells.{fed, isDigit, allDigits, valueFrom, wholeCell, withDigit, withByte}
 use Rattle.text.specs.declared.cell.Cell.{Cell}
 use Rattle.text.specs.declared.cell.Cell.the-variants.{Empty, Number, Bad}
 
@@ -57,15 +57,15 @@ module _ (cell : Cell) (b : ℕ) where
 
 -- ---- a byte that is a digit, and one that is not
 -- a test's way: a digit, with its bounds, or none, when every cell with it is bad
-pub data Sorted (b : ℕ) : Bool → Type 0 where
-  digit : 48 ≤ b → b ≤ 57 → Sorted b true
-  other : ((cell : Cell) → withByte cell b ≡ Bad) → Sorted b false
+data Tried (b : ℕ) : Bool → Type 0 where
+  digit : 48 ≤ b → b ≤ 57 → Tried b true
+  other : ((cell : Cell) → withByte cell b ≡ Bad) → Tried b false
 
-pub sorted : (b : ℕ) → Sorted b (isDigit b)
+tried : (b : ℕ) → Tried b (isDigit b)
 unfolding isDigit
-sorted b = go (leb 48 b) (leb b 57) refl refl
+tried b = go (leb 48 b) (leb b 57) refl refl
   where
-    go : (s t : Bool) → leb 48 b ≡ s → leb b 57 ≡ t → Sorted b (s and t)
+    go : (s t : Bool) → leb 48 b ≡ s → leb b 57 ≡ t → Tried b (s and t)
     go true true p q = digit (leb-true 48 b p) (leb-true b 57 q)
     go true false p q = other (λ cell. byte-high cell b (leb-false b 57 q))
     go false t p q = other (λ cell. byte-low cell b (leb-false 48 b p))
@@ -73,9 +73,9 @@ sorted b = go (leb 48 b) (leb b 57) refl refl
 -- ---- all bytes
 -- what was bad stays bad
 bad-more : (b : ℕ) → withByte Bad b ≡ Bad
-bad-more b = go (isDigit b) (sorted b)
+bad-more b = go (isDigit b) (tried b)
   where
-    go : (t : Bool) → Sorted b t → withByte Bad b ≡ Bad
+    go : (t : Bool) → Tried b t → withByte Bad b ≡ Bad
     go true (digit low high) = byte-digit Bad b low high ∙ digit-bad Bad (b - 48) refl
     go false (other bad) = bad Bad
 
@@ -120,9 +120,9 @@ number-more v b bs pos low high follow = rw (byte-digit (Number v) b low high) (
 
 number-fed : (bs : List ℕ) (v : ℕ) → 0 < v → v ≤ 4294967295 → fed withByte (Number v) bs ≡ further v bs
 number-fed [] v pos le = rw (le-leb v 4294967295 le)
-number-fed (b ∷ bs) v pos le = go (number-fed bs) (isDigit b) (sorted b)
+number-fed (b ∷ bs) v pos le = go (number-fed bs) (isDigit b) (tried b)
   where
-    go : ((w : ℕ) → 0 < w → w ≤ 4294967295 → fed withByte (Number w) bs ≡ further w bs) → (t : Bool) → Sorted b t
+    go : ((w : ℕ) → 0 < w → w ≤ 4294967295 → fed withByte (Number w) bs ≡ further w bs) → (t : Bool) → Tried b t
         → fed withByte (withByte (Number v) b) bs
         ≡ pick ((t and allDigits bs) and leb (valueFrom (v * 10 + (b - 48)) bs) 4294967295) (Number (valueFrom (v * 10 + (b - 48)) bs)) Bad
     go follow true (digit low high) = number-more v b bs pos low high follow
@@ -130,25 +130,20 @@ number-fed (b ∷ bs) v pos le = go (number-fed bs) (isDigit b) (sorted b)
 
 -- a zero stands alone
 zero-more : (b : ℕ) → withByte (Number 0) b ≡ Bad
-zero-more b = go (isDigit b) (sorted b)
+zero-more b = go (isDigit b) (tried b)
   where
-    go : (t : Bool) → Sorted b t → withByte (Number 0) b ≡ Bad
+    go : (t : Bool) → Tried b t → withByte (Number 0) b ≡ Bad
     go true (digit low high) = byte-digit (Number 0) b low high ∙ digit-zero (Number 0) 0 (b - 48) refl refl
     go false (other bad) = bad (Number 0)
 
--- a cell that fails its second test
-unread : (t : Bool) (x : Cell) → pick (t and false) x Bad ≡ Bad
-unread true x = refl
-unread false x = refl
-
 -- the first digit is a zero
-first-zero : (b : ℕ) (bs : List ℕ) → b ≡ 48 → fed withByte (Number (b - 48)) bs ≡ cellOf (b ∷ bs)
+first-zero : (b : ℕ) (bs : List ℕ) → b ≡ 48 → fed withByte (Number (b - 48)) bs ≡ wholeCell (b ∷ bs)
 unfolding isDigit
 first-zero b [] e = rw e
-first-zero b (c ∷ bs) e = rw (e, zero-more c) (bad-stays bs ∙ sym (unread (isDigit c and allDigits bs) (Number (valueFrom (0 + (c - 48)) bs))))
+first-zero b (c ∷ bs) e = rw (e, zero-more c, and-false (isDigit c and allDigits bs)) (bad-stays bs)
 
 -- the first digit is another
-first-other : (b : ℕ) (bs : List ℕ) → 48 < b → b ≤ 57 → isDigit b ≡ true → fed withByte (Number (b - 48)) bs ≡ cellOf (b ∷ bs)
+first-other : (b : ℕ) (bs : List ℕ) → 48 < b → b ≤ 57 → isDigit b ≡ true → fed withByte (Number (b - 48)) bs ≡ wholeCell (b ∷ bs)
 first-other b [] lt high is =
     let small : b - 48 ≤ 4294967295 = omega arith in
     let same : 0 + (b - 48) ≡ b - 48 = omega arith in
@@ -160,20 +155,20 @@ first-other b (c ∷ bs) lt high is =
     let small : b - 48 ≤ 4294967295 = omega arith in
     rw (is, ne-eqb b 48 ne, same) (number-fed (c ∷ bs) (b - 48) pos small)
 
-first-digit : (b : ℕ) (bs : List ℕ) → 48 ≤ b → b ≤ 57 → isDigit b ≡ true → fed withByte (Number (b - 48)) bs ≡ cellOf (b ∷ bs)
+first-digit : (b : ℕ) (bs : List ℕ) → 48 ≤ b → b ≤ 57 → isDigit b ≡ true → fed withByte (Number (b - 48)) bs ≡ wholeCell (b ∷ bs)
 first-digit b bs low high is = go (eqb b 48) refl
   where
-    go : (t : Bool) → eqb b 48 ≡ t → fed withByte (Number (b - 48)) bs ≡ cellOf (b ∷ bs)
+    go : (t : Bool) → eqb b 48 ≡ t → fed withByte (Number (b - 48)) bs ≡ wholeCell (b ∷ bs)
     go true e = first-zero b bs (eqb-true b 48 e)
     go false e =
         let ne : b ≡ 48 → ⊥ = eqb-false b 48 e in
         first-other b bs (omega arith) high is
 
 -- a cell's bytes, fed one by one to no cell, come to what 01 says of them
-pub cell-is : (bs : List ℕ) → fed withByte Empty bs ≡ cellOf bs
+pub cell-is : (bs : List ℕ) → fed withByte Empty bs ≡ wholeCell bs
 cell-is [] = refl
-cell-is (b ∷ bs) = go (isDigit b) refl (sorted b)
+cell-is (b ∷ bs) = go (isDigit b) refl (tried b)
   where
-    go : (t : Bool) → isDigit b ≡ t → Sorted b t → fed withByte (withByte Empty b) bs ≡ cellOf (b ∷ bs)
+    go : (t : Bool) → isDigit b ≡ t → Tried b t → fed withByte (withByte Empty b) bs ≡ wholeCell (b ∷ bs)
     go true is (digit low high) = rw (byte-digit Empty b low high, digit-empty Empty (b - 48) refl) (first-digit b bs low high is)
     go false is (other bad) = rw (bad Empty, is) (bad-stays bs)

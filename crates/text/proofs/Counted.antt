@@ -3,27 +3,29 @@
 --     number-is                             a cell that is a number
 --     cells-good, cells-count, cells-run    what cells come to
 --     cells-long                            the run keeps its length
+--     values-length                         as many numbers as cells
 --     many-few, many-large, many-parity     the count, exact up to 65,536 and even or odd as it should be past that
+--     many-same                             it tells a count below 65,535 from every other
 -- Assumes nothing.
-use Prim.Native.Nat.{ℕ, zero, suc, _+_, _-_, _%_, _≤_, _<_}
+use Prim.Native.Nat.{ℕ, suc, _+_, _-_, _%_, _≤_, _<_}
 use mathlib.Core.Bool.{Bool, true, false}
 use mathlib.Core.List.{List, [], _∷_}
 use mathlib.Core.Path.{_≡_, refl, sym, ap, _∙_}
 use native.Mathlib.Omega.{arith}
-use borrow.Author.Tests.{ltb-true, ltb-false}
-use lib.Dec.{ltb}
+use borrow.Author.Tests.{ne-eqb, ltb-true, ltb-false, leb-true, leb-false}
+use lib.Dec.{ltb, leb, eqb}
 use lib.ListN.{length, set}
 use lib.Seq.{sets}
 use Rattle.ranges.specs.Numbers.{pick, _and_}
 use Rattle.ranges.proofs.Numbers.{never, and-left, and-right}
-use Rattle.text.specs.Cells.{cellOf, isNumber, readable, valueOf}
-use Rattle.text.specs.Rows.{allNumbers, numbersOf, oneMore, manyMore, stillGood, keptAs, Reading, readCell, readCells}
+use Rattle.text.specs.Cells.{wholeCell, isNumber, readable, valueOf}
+use Rattle.text.specs.Rows.{allNumbers, valuesOf, oneMore, manyMore, stillGood, keptAs, Reading, readCell, readCells}
 use Rattle.text.specs.declared.cell.Cell.{Cell}
 use Rattle.text.specs.declared.cell.Cell.the-variants.{Empty, Number, Bad}
 use Rattle.text.proofs.Rows.{more-few, more-many, kept-length}
 
 -- ---- a cell that is a number
-pub number-is : (c : List ℕ) → isNumber (cellOf c) ≡ true → cellOf c ≡ Number (valueOf c)
+pub number-is : (c : List ℕ) → isNumber (wholeCell c) ≡ true → wholeCell c ≡ Number (valueOf c)
 number-is [] e = never (cc)
 number-is (b ∷ bs) e = go (readable (b ∷ bs)) e
   where
@@ -45,7 +47,7 @@ cells-good from s [] = go (s .row .good)
     go : (g : Bool) → g ≡ g and true
     go true = refl
     go false = refl
-cells-good from s (c ∷ cs) = cells-good from (readCell from s c) cs ∙ still (cellOf c) (s .row .good) (allNumbers cs)
+cells-good from s (c ∷ cs) = cells-good from (readCell from s c) cs ∙ still (wholeCell c) (s .row .good) (allNumbers cs)
 
 -- ---- how many they are
 pub cells-count : (from : ℕ) (s : Reading) (cs : List (List ℕ)) → readCells from s cs .row .cells ≡ manyMore (s .row .cells) cs
@@ -92,20 +94,37 @@ many-parity (c ∷ cs) k le =
     let parity = s .parity in
     rest ∙ omega arith
 
+pub many-same : (cs : List (List ℕ)) (w : ℕ) → w < 65535 → eqb (manyMore 0 cs) w ≡ eqb (length cs) w
+many-same cs w lt = go (leb (length cs) 65536) refl
+  where
+    go : (t : Bool) → leb (length cs) 65536 ≡ t → eqb (manyMore 0 cs) w ≡ eqb (length cs) w
+    go true e =
+        let few = leb-true (length cs) 65536 e in
+        let same : manyMore 0 cs ≡ length cs = omega (arith, many-few cs 0 (omega arith)) in
+        rw same
+    go false e =
+        let many = leb-false (length cs) 65536 e in
+        let large : 65535 ≤ manyMore 0 cs = many-large cs 0 (omega arith) (omega arith) in
+        ne-eqb (manyMore 0 cs) w (λ is. omega arith) ∙ sym (ne-eqb (length cs) w (λ is. omega arith))
+
 -- ---- where their numbers stand
+pub values-length : (cs : List (List ℕ)) → length (valuesOf cs) ≡ length cs
+values-length [] = refl
+values-length (c ∷ cs) = ap suc (values-length cs)
+
 pub cells-run : (cs : List (List ℕ)) (from : ℕ) (s : Reading) → allNumbers cs ≡ true → s .row .cells + length cs ≤ 65536
-    → readCells from s cs .run ≡ sets (s .run) (from + s .row .cells) (numbersOf cs)
+    → readCells from s cs .run ≡ sets (s .run) (from + s .row .cells) (valuesOf cs)
 cells-run [] from s all few = refl
 cells-run (c ∷ cs) from s all few =
-    let first = number-is c (and-left (isNumber (cellOf c)) (allNumbers cs) all) in
-    let rest = and-right (isNumber (cellOf c)) (allNumbers cs) all in
+    let first = number-is c (and-left (isNumber (wholeCell c)) (allNumbers cs) all) in
+    let rest = and-right (isNumber (wholeCell c)) (allNumbers cs) all in
     let one : oneMore (s .row .cells) ≡ s .row .cells + 1 = more-few (s .row .cells) (omega arith) in
     let place : from + oneMore (s .row .cells) ≡ suc (from + s .row .cells) = omega arith in
     cells-run cs from (readCell from s c) rest (omega arith)
-    ∙ ap (λ cell. sets (keptAs cell (from + s .row .cells) (s .run)) (from + oneMore (s .row .cells)) (numbersOf cs)) first
-    ∙ ap (λ j. sets (set (s .run) (from + s .row .cells) (valueOf c)) j (numbersOf cs)) place
+    ∙ ap (λ cell. sets (keptAs cell (from + s .row .cells) (s .run)) (from + oneMore (s .row .cells)) (valuesOf cs)) first
+    ∙ ap (λ j. sets (set (s .run) (from + s .row .cells) (valueOf c)) j (valuesOf cs)) place
 
 -- the run keeps its length
 pub cells-long : (cs : List (List ℕ)) (from : ℕ) (s : Reading) → length (readCells from s cs .run) ≡ length (s .run)
 cells-long [] from s = refl
-cells-long (c ∷ cs) from s = cells-long cs from (readCell from s c) ∙ kept-length (cellOf c) (from + s .row .cells) (s .run)
+cells-long (c ∷ cs) from s = cells-long cs from (readCell from s c) ∙ kept-length (wholeCell c) (from + s .row .cells) (s .run)

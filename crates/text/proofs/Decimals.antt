@@ -1,4 +1,4 @@
--- Laws of a number's digits (`specs/Puts.antt`): the digits of n below 10 are one, those of any other are the digits of
+-- Laws of a number's digits (`specs/Decimals.antt`): the digits of n below 10 are one, those of any other are the digits of
 -- n / 10 and then the last. How far `digitsFrom` may count does not matter once it is above n.
 --     decimal-one, decimal-more      the digits of a number
 --     decimal-short                  how many they are at most
@@ -6,15 +6,15 @@
 -- Assumes nothing.
 use Prim.Native.Nat.{ℕ, zero, suc, _+_, _-_, _*_, _/_, _%_, _^_, _≤_, _<_}
 use mathlib.Core.Bool.{Bool, true, false}
-use mathlib.Core.List.{List, [], _∷_, _++_}
+use mathlib.Core.List.{[], _∷_, _++_}
 use mathlib.Core.Path.{_≡_, refl, sym, ap, _∙_}
 use native.Mathlib.Omega.{arith}
 use borrow.Author.Tests.{lt-ltb, le-ltb, ltb-true, ltb-false}
 use lib.Dec.{ltb}
 use lib.ListN.{length, length-append}
-use Rattle.text.specs.Cells.{fed, withDigit, withByte, cellOf}
+use Rattle.text.specs.Cells.{fed, withDigit, withByte, wholeCell}
 use Rattle.text.specs.declared.cell.Cell.the-variants.{Empty, Number}
-use Rattle.text.specs.Puts.{spelled, digitsFrom, decimalOf}
+use Rattle.text.specs.Decimals.{spelled, digitsFrom, decimalOf}
 use Rattle.text.proofs.Feeding.{fed-append}
 use Rattle.text.proofs.Cells.{digit-empty, digit-more, byte-digit, cell-is}
 
@@ -89,5 +89,5 @@ read-fed (suc k) n lt small = go (ltb n 10) refl (read-fed k (n / 10))
         ∙ ap Number same
 
 -- the digits of a number, read as a cell, are the number
-pub decimal-read : (n : ℕ) → n ≤ 4294967295 → cellOf (decimalOf n) ≡ Number n
+pub decimal-read : (n : ℕ) → n ≤ 4294967295 → wholeCell (decimalOf n) ≡ Number n
 decimal-read n small = sym (cell-is (decimalOf n)) ∙ read-fed (suc n) n (omega arith) small

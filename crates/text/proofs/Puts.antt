@@ -1,18 +1,18 @@
 -- Laws of bytes put from a place on (`specs/Puts.antt`).
---     put-none, put-past        no byte; a byte past the run's end
---     put-then, put-more        bytes after bytes; one byte more of a text
---     put-length                the run keeps its length
---     put-fits, put-place       where there is room, every byte is there
+--     put-no-byte, put-past       no byte; a byte past the run's end
+--     put-then, put-byte-more     bytes after bytes; one byte more of a text
+--     put-long                    the run keeps its length
+--     put-place, put-fits         where there is room, every byte is there
 -- Assumes nothing.
-use Prim.Native.Nat.{ℕ, zero, suc, _+_, _≤_, _<_, min, max}
+use Prim.Native.Nat.{ℕ, suc, _+_, _≤_, _<_}
 use mathlib.Core.Bool.{Bool, true, false}
 use mathlib.Core.List.{List, [], _∷_, _++_}
-use mathlib.Core.Path.{_≡_, refl, sym, ap, _∙_, subst}
+use mathlib.Core.Path.{_≡_, refl, sym, ap, _∙_}
 use native.Mathlib.Omega.{arith}
 use native.Mathlib.Numerals.{add-one}
 use lib.Dec.{leb}
 use borrow.Author.Tests.{leb-true, leb-false}
-use lib.ListN.{length, getD, take, drop, set, length-append, length-set}
+use lib.ListN.{length, getD, take, drop, set, length-append}
 use lib.Seq.{sets, sets-eq, length-sets, set-out, take-suc}
 use Rattle.text.specs.Puts.{placeAfter, Put}
 
@@ -51,15 +51,15 @@ place-then : (n at j k next : ℕ) → next ≡ placeAfter n at j → placeAfter
 place-then n at j k next is = omega arith
 
 module _ {out : List ℕ} {at : ℕ} where
-  pub put-none : Put out at [] out at
-  put-none = record { place = omega arith; bytes = refl }
+  pub put-no-byte : Put out at [] out at
+  put-no-byte = record { place = omega arith; bytes = refl }
 
   pub put-past : {b : ℕ} → length out ≤ at → Put out at (b ∷ []) out at
   put-past {b} past = record { place = omega arith; bytes = sym (set-out out at b past) }
 
 module _ {out : List ℕ} {at : ℕ} {xs after : List ℕ} {next : ℕ} (first : Put out at xs after next) where
-  pub put-length : length after ≡ length out
-  put-length = ap length (first .bytes) ∙ length-sets out at xs
+  pub put-long : length after ≡ length out
+  put-long = ap length (first .bytes) ∙ length-sets out at xs
 
   -- bytes after bytes
   pub put-then : {ys last : List ℕ} {end : ℕ} → Put after next ys last end → Put out at (xs ++ ys) last end
@@ -67,7 +67,7 @@ module _ {out : List ℕ} {at : ℕ} {xs after : List ℕ} {next : ℕ} (first :
       record {
         place =
             second .place
-            ∙ ap (λ n. placeAfter n next (length ys)) put-length
+            ∙ ap (λ n. placeAfter n next (length ys)) put-long
             ∙ place-then (length out) at (length xs) (length ys) next (first .place)
             ∙ ap (placeAfter (length out) at) (sym (length-append xs ys));
         bytes =
@@ -84,6 +84,6 @@ module _ {out : List ℕ} {at : ℕ} {xs after : List ℕ} {next : ℕ} (first :
   put-fits fits = first .bytes ∙ sets-eq xs out at fits
 
 -- one byte more of a text
-pub put-more : (text : List ℕ) (i : ℕ) {out : List ℕ} {at : ℕ} {after : List ℕ} {next : ℕ} {last : List ℕ} {end : ℕ} → i < length text
+pub put-byte-more : (text : List ℕ) (i : ℕ) {out : List ℕ} {at : ℕ} {after : List ℕ} {next : ℕ} {last : List ℕ} {end : ℕ} → i < length text
     → Put out at (take i text) after next → Put after next (getD text i 0 ∷ []) last end → Put out at (take (i + 1) text) last end
-put-more text i lt first second = rw (add-one i, take-suc text i 0) (put-then first second)
+put-byte-more text i lt first second = rw (add-one i, take-suc text i 0) (put-then first second)

@@ -3,18 +3,19 @@
 --     next-empty, next-number, next-bad    the line after a cell
 --     kept-empty, kept-number, kept-bad    the run then
 --     kept-length, kept-long               which keeps its length
+--     read-ends, read-takes                one byte of a line
 --     row-is                               all bytes of a line: its cells
 -- Assumes nothing.
 use Prim.Native.Nat.{ℕ, _+_, _-_, _≤_, _<_}
 use mathlib.Core.Bool.{Bool, true, false}
 use mathlib.Core.List.{List, [], _∷_}
-use mathlib.Core.Path.{_≡_, refl, sym, ap, _∙_}
-use borrow.Author.Tests.{lt-ltb, le-ltb}
+use mathlib.Core.Path.{_≡_, refl, _∙_}
+use borrow.Author.Tests.{lt-ltb, le-ltb, eq-eqb, ne-eqb}
 use lib.ListN.{length, set, length-set}
 use lib.Dec.{eqb}
 use Rattle.ranges.specs.Numbers.{pick}
 use Rattle.text.specs.Cells.{fed, withByte}
-use Rattle.text.specs.Rows.{oneMore, rowNext, keptAs, keptAt, onto, cellsIn, Reading, begin, ended, within, readByte, readCell, readCells}
+use Rattle.text.specs.Rows.{oneMore, rowNext, keptAs, keptAt, inFront, cellsIn, Reading, begin, ended, within, readByte, readCell, readCells}
 use Rattle.text.proofs.Cells.{cell-is}
 use Rattle.text.specs.declared.cell.Cell.{Cell}
 use Rattle.text.specs.declared.cell.Cell.the-variants.{Empty, Number, Bad}
@@ -66,6 +67,16 @@ pub kept-long : (row : Row) (from : ℕ) (run : List ℕ) → length (keptAt row
 unfolding keptAt
 kept-long row from run = kept-length (row .cell) (from + row .cells) run
 
+-- ---- one byte of a line
+module _ (by from : ℕ) (s : Reading) (b : ℕ) where
+  pub read-ends : b ≡ by → ended from s ≡ readByte by from s b
+  unfolding readByte
+  read-ends is = rw (eq-eqb b by is)
+
+  pub read-takes : (b ≡ by → ⊥) → within s b ≡ readByte by from s b
+  unfolding readByte
+  read-takes other = rw (ne-eqb b by other)
+
 -- ---- the bytes of a line come to its cells
 -- the present cell takes whole bytes and ends
 abbrev filled : ℕ → Reading → List ℕ → Reading
@@ -82,7 +93,7 @@ unfolding rowNext keptAt
 filled-whole from s c e = rw (e, cell-is c)
 
 -- there is always a first piece
-onto-whole : (from : ℕ) (s : Reading) → s .row .cell ≡ Empty → (b : ℕ) (cs : List (List ℕ)) → goesOn from s (onto b cs) ≡ readCells from s (onto b cs)
+onto-whole : (from : ℕ) (s : Reading) → s .row .cell ≡ Empty → (b : ℕ) (cs : List (List ℕ)) → goesOn from s (inFront b cs) ≡ readCells from s (inFront b cs)
 onto-whole from s e b [] = rw (filled-whole from s (b ∷ []) e)
 onto-whole from s e b (c ∷ cs) = rw (filled-whole from s (b ∷ c) e)
 
@@ -90,7 +101,7 @@ whole : (by from : ℕ) (s : Reading) → s .row .cell ≡ Empty → (l : List �
 whole by from s e [] = rw (filled-whole from s [] e)
 whole by from s e (b ∷ l) = go (eqb b by)
   where
-    go : (t : Bool) → goesOn from s (pick t ([] ∷ cellsIn by l) (onto b (cellsIn by l))) ≡ readCells from s (pick t ([] ∷ cellsIn by l) (onto b (cellsIn by l)))
+    go : (t : Bool) → goesOn from s (pick t ([] ∷ cellsIn by l) (inFront b (cellsIn by l))) ≡ readCells from s (pick t ([] ∷ cellsIn by l) (inFront b (cellsIn by l)))
     go true = rw (filled-whole from s [] e)
     go false = onto-whole from s e b (cellsIn by l)
 
@@ -99,7 +110,7 @@ unfolding rowNext
 next-starts row = refl
 
 -- a byte of the present cell
-within-on : (from : ℕ) (s : Reading) (b : ℕ) (cs : List (List ℕ)) → goesOn from (within s b) cs ≡ goesOn from s (onto b cs)
+within-on : (from : ℕ) (s : Reading) (b : ℕ) (cs : List (List ℕ)) → goesOn from (within s b) cs ≡ goesOn from s (inFront b cs)
 within-on from s b [] = refl
 within-on from s b (c ∷ cs) = refl
 
@@ -109,7 +120,7 @@ read-on by from [] s = refl
 read-on by from (b ∷ l) s = go (eqb b by) (read-on by from l)
   where
     go : (t : Bool) → ((r : Reading) → ended from (fed (readByte by from) r l) ≡ goesOn from r (cellsIn by l))
-        → ended from (fed (readByte by from) (pick t (ended from s) (within s b)) l) ≡ goesOn from s (pick t ([] ∷ cellsIn by l) (onto b (cellsIn by l)))
+        → ended from (fed (readByte by from) (pick t (ended from s) (within s b)) l) ≡ goesOn from s (pick t ([] ∷ cellsIn by l) (inFront b (cellsIn by l)))
     go true follow = follow (ended from s) ∙ whole by from (ended from s) (next-starts (s .row)) l
     go false follow = follow (within s b) ∙ within-on from s b (cellsIn by l)
 

@@ -1,5 +1,5 @@
 -- 01, The program: a cell is a plain decimal without quotes or leading zeros, 0 to 4294967295.
--- `cellOf` says what a whole cell's bytes come to. `withByte` says the same byte by byte, as the code goes; that the
+-- `wholeCell` says what a whole cell's bytes come to. `withByte` says the same byte by byte, as the code goes; that the
 -- two agree is `cell-is` of `proofs/Cells.antt`.
 -- Assumes nothing: these are definitions.
 use Prim.Native.Nat.{ℕ, _+_, _-_, _*_}
@@ -44,9 +44,9 @@ abbrev pub readable : List ℕ → Bool
 readable bs = allDigits bs and not (leadingZero bs) and leb (valueOf bs) 4294967295
 
 -- what a cell's bytes come to ("7" is 7; "", "07", "+7", " 7", "4294967296" are no numbers)
-abbrev pub cellOf : List ℕ → Cell
-cellOf [] = Empty
-cellOf (b ∷ bs) = pick (readable (b ∷ bs)) (Number (valueOf (b ∷ bs))) Bad
+abbrev pub wholeCell : List ℕ → Cell
+wholeCell [] = Empty
+wholeCell (b ∷ bs) = pick (readable (b ∷ bs)) (Number (valueOf (b ∷ bs))) Bad
 
 -- it is a number
 abbrev pub isNumber : Cell → Bool

@@ -4,34 +4,34 @@
 use Prim.Native.Nat.{ℕ, _+_, _-_}
 use mathlib.Core.Bool.{Bool, true, false}
 use mathlib.Core.List.{List, [], _∷_}
-use lib.ListN.{length, set}
+use lib.ListN.{set}
 use lib.Dec.{ltb, eqb}
 use Rattle.ranges.specs.Numbers.{pick, _and_}
-use Rattle.text.specs.Cells.{withByte, cellOf, isNumber, valueOf}
+use Rattle.text.specs.Cells.{withByte, wholeCell, isNumber, valueOf}
 use Rattle.text.specs.declared.cell.Cell.{Cell}
 use Rattle.text.specs.declared.cell.Cell.the-variants.{Empty, Number, Bad}
 use Rattle.text.specs.declared.row.Row.{Row}
 
 -- ---- a whole line
 -- puts a byte in front of the first piece, and makes one where there is none
-abbrev pub onto : ℕ → List (List ℕ) → List (List ℕ)
-onto b [] = (b ∷ []) ∷ []
-onto b (c ∷ cs) = (b ∷ c) ∷ cs
+abbrev pub inFront : ℕ → List (List ℕ) → List (List ℕ)
+inFront b [] = (b ∷ []) ∷ []
+inFront b (c ∷ cs) = (b ∷ c) ∷ cs
 
 -- the cells of a line, parted by a byte: one more than there are such bytes
 abbrev pub cellsIn : ℕ → List ℕ → List (List ℕ)
 cellsIn by [] = [] ∷ []
-cellsIn by (b ∷ bs) = pick (eqb b by) ([] ∷ cellsIn by bs) (onto b (cellsIn by bs))
+cellsIn by (b ∷ bs) = pick (eqb b by) ([] ∷ cellsIn by bs) (inFront b (cellsIn by bs))
 
 -- every cell is a number
 abbrev pub allNumbers : List (List ℕ) → Bool
 allNumbers [] = true
-allNumbers (c ∷ cs) = isNumber (cellOf c) and allNumbers cs
+allNumbers (c ∷ cs) = isNumber (wholeCell c) and allNumbers cs
 
 -- the numbers of cells that are numbers
-abbrev pub numbersOf : List (List ℕ) → List ℕ
-numbersOf [] = []
-numbersOf (c ∷ cs) = valueOf c ∷ numbersOf cs
+abbrev pub valuesOf : List (List ℕ) → List ℕ
+valuesOf [] = []
+valuesOf (c ∷ cs) = valueOf c ∷ valuesOf cs
 
 -- ---- what has been read of a line
 -- nothing
@@ -96,8 +96,8 @@ readByte by from s b = pick (eqb b by) (ended from s) (within s b)
 abbrev pub readCell : ℕ → Reading → List ℕ → Reading
 readCell from s c =
     record {
-      row = record { cell = Empty; cells = oneMore (s .row .cells); good = stillGood (cellOf c) (s .row .good) };
-      run = keptAs (cellOf c) (from + s .row .cells) (s .run);
+      row = record { cell = Empty; cells = oneMore (s .row .cells); good = stillGood (wholeCell c) (s .row .good) };
+      run = keptAs (wholeCell c) (from + s .row .cells) (s .run);
     }
 
 -- cells one after the other

@@ -1,7 +1,8 @@
 // Bytes put at a place of a lent run, and the place after them. What does not fit is left out, so that no place is
 // ever past the run's end that was not so before: a caller who needs every byte makes room first.
 ghost use mathlib.Core.List.{[], _∷_};
-ghost use Rattle.text.specs.Puts.{Put, decimalOf};
+ghost use Rattle.text.specs.Decimals.{decimalOf};
+ghost use Rattle.text.specs.Puts.{Put};
 
 // Puts one byte at a place, where there is one, and answers the next place.
 pub fn put_byte(byte: u8, out: &mut [u8], at: usize) -> usize

@@ -2,7 +2,7 @@
 -- Assumes nothing.
 use borrow.Author.Needs.{needs}
 use native.Mathlib.Omega.{arith}
-use Rattle.text.proofs.Puts.{put-then, put-length}
+use Rattle.text.proofs.Puts.{put-then, put-long}
 use Rattle.text.proofs.Decimals.{decimal-one, decimal-more}
 use Prim.Native.Nat.{ℕ, _<_}
 use borrow.Fn.Kinds.{In}
@@ -39,7 +39,7 @@ put-number-put-byte-requires : (t : ℕ) → put-number-lts.Need-put-byte-requir
 put-number-put-byte-requires t c κs = tt
 
 put-number-same-length : (t : ℕ) → put-number-lts.Need-same-length (claims t) (put-number-at t) put-number.Post
-put-number-same-length t c = put-length (c .before .before .put-byte .ensures)
+put-number-same-length t c = put-long (c .before .before .put-byte .ensures)
 
 put-number-returns : (t : ℕ) → put-number-lts.Need-returns (claims t) (put-number-at t) put-number.Post
 put-number-returns t c =
@@ -59,7 +59,7 @@ put-number-put-byte-requires-2 : (t : ℕ) → put-number-lts.Need-put-byte-requ
 put-number-put-byte-requires-2 t c κs = tt
 
 put-number-same-length-2 : (t : ℕ) → put-number-lts.Need-same-length-2 (claims t) (put-number-at t) put-number.Post
-put-number-same-length-2 t c = put-length (put-then (c .before .before .before .before .before .before .put-number .ensures) (c .before .before .put-byte2 .ensures))
+put-number-same-length-2 t c = put-long (put-then (c .before .before .before .before .before .before .put-number .ensures) (c .before .before .put-byte2 .ensures))
 
 put-number-returns-2 : (t : ℕ) → put-number-lts.Need-returns-2 (claims t) (put-number-at t) put-number.Post
 put-number-returns-2 t c =

@@ -7,7 +7,7 @@ use native.Mathlib.Omega.{arith}
 use lib.ListN.{length, take}
 use lib.Seq.{take-all}
 use Rattle.text.specs.Puts.{Put}
-use Rattle.text.proofs.Puts.{put-none, put-more, put-length}
+use Rattle.text.proofs.Puts.{put-no-byte, put-byte-more, put-long}
 use Rattle.text.proofs.put.put_text.Statement.{statement}
 use Rattle.text.proofs.put.put_text.Tie as tie
 
@@ -18,7 +18,7 @@ abbrev μ-loop : tie.MeasureT-loop
 μ-loop text out₀ at place₀ i₀ out place i = length text - i
 
 loop-holds : tie.Need-loop-holds Inv-loop μ-loop
-loop-holds c = (search needs, put-none)
+loop-holds c = (search needs, put-no-byte)
 
 shared-slice-read-put-byte : tie.Need-shared-slice-read-put-byte Inv-loop μ-loop
 shared-slice-read-put-byte c = search needs
@@ -36,10 +36,10 @@ loop-again : tie.Need-loop-again Inv-loop μ-loop
 loop-again c =
     let s = c .before .before .before .before .before .before in
     let text = s .before .before .before .args .text .now in
-    (search needs, put-more text (s .loop .i) (omega arith) (s .loop .inv .1) (c .before .before .put-byte .ensures))
+    (search needs, put-byte-more text (s .loop .i) (omega arith) (s .loop .inv .1) (c .before .before .put-byte .ensures))
 
 same-length : tie.Need-same-length Inv-loop μ-loop
-same-length c = put-length (c .before .loop .inv .1)
+same-length c = put-long (c .before .loop .inv .1)
 
 returns : tie.Need-returns Inv-loop μ-loop
 returns c =

@@ -1,8 +1,6 @@
 -- `text::row::row_byte` meets its contract: the present cell takes the byte.
 -- Assumes nothing.
 use borrow.Author.Needs.{needs}
-use mathlib.Core.Path.{ap}
-use Rattle.text.specs.declared.row.Row.{Row}
 use Rattle.text.proofs.row.row_byte.Statement.{statement}
 use Rattle.text.proofs.row.row_byte.Tie as tie
 
@@ -10,8 +8,7 @@ with-byte-requires : tie.Need-with-byte-requires
 with-byte-requires c κs = search needs
 
 returns : tie.Need-returns
-returns c = let row = c .before .args .row in
-    rw (c .with-byte .ensures)
+returns c = rw (c .with-byte .ensures)
 
 pub row-byte-spec : {M : Type 1} → statement M
 row-byte-spec = tie.close (tie.spec with-byte-requires returns)
