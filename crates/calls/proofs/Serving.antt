@@ -11,7 +11,7 @@ use Rattle.ranges.specs.Numbers.{pick}
 use lib.ListN.{length, take, drop, length-take, length-drop}
 use Rattle.text.specs.Cells.{fed}
 use Rattle.text.specs.Puts.{Put}
-use Rattle.text.proofs.Puts.{put-none}
+use Rattle.text.proofs.Puts.{put-no-byte}
 use Rattle.calls.specs.Lines.{Heard, unheard, heardByte, lineIn}
 use Rattle.calls.specs.Answers.{answerSaid}
 use Rattle.calls.specs.Serving.{servedOf, Served}
@@ -24,7 +24,7 @@ module _ (s : Heard) (bytes : List ℕ) (k : ℕ) (is : k ≡ lineIn bytes) {h :
       let over : length bytes ≤ lineIn bytes = omega arith in
       record {
         count = rw (le-ltb (lineIn bytes) (length bytes) over) is;
-        said = rw (le-ltb (lineIn bytes) (length bytes) over) put-none;
+        said = rw (le-ltb (lineIn bytes) (length bytes) over) put-no-byte;
         within = λ e. rw is at hears;
         anew = λ lt. absurd (omega arith);
       }

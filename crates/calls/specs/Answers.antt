@@ -8,7 +8,7 @@ use mathlib.Core.List.{List, [], _∷_}
 use lib.ListN.{length, take}
 use lib.Dec.{ltb}
 use Rattle.ranges.specs.Numbers.{pick}
-use Rattle.text.specs.Rows.{cellsIn, allNumbers, numbersOf, rowNext, keptAt}
+use Rattle.text.specs.Rows.{cellsIn, allNumbers, valuesOf, rowNext, keptAt}
 use Rattle.text.specs.declared.row.Row.{Row}
 use Rattle.calls.specs.declared.word.Word.{Word}
 use Rattle.calls.specs.declared.word.Word.the-variants.{Check, Scan, Independent, Table, P2r, R2p, Unknown}
@@ -31,7 +31,7 @@ wordSaid Unknown ns = badSaid
 abbrev pub wordsSaid : List (List ℕ) → List ℕ
 wordsSaid [] = badSaid
 wordsSaid (name ∷ []) = badSaid
-wordsSaid (name ∷ n ∷ ns) = pick (allNumbers (n ∷ ns)) (wordSaid (wordOf name) (numbersOf (n ∷ ns))) badSaid
+wordsSaid (name ∷ n ∷ ns) = pick (allNumbers (n ∷ ns)) (wordSaid (wordOf name) (valuesOf (n ∷ ns))) badSaid
 
 -- a line's words are parted by single blanks
 abbrev pub answerOf : List ℕ → List ℕ

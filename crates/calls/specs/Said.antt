@@ -18,7 +18,7 @@ use Rattle.sorting.specs.declared.audit.Verdict.the-variants.{Yes, No, Refused 
 use Rattle.sorting.specs.declared.report.Part.{Part}
 use Rattle.sorting.specs.declared.report.Part.the-variants.{Is as PartIs, Refused as NoPart}
 use Rattle.text.specs.Texts.{bytes}
-use Rattle.text.specs.Puts.{decimalOf}
+use Rattle.text.specs.Decimals.{decimalOf}
 
 -- a blank and a number
 abbrev pub spaced : ℕ → List ℕ

@@ -8,7 +8,7 @@ use lib.ListN.{length, take}
 use lib.Seq.{take-all}
 use Rattle.text.specs.Puts.{Put}
 use Rattle.calls.specs.Said.{allSpaced}
-use Rattle.text.proofs.Puts.{put-none, put-length}
+use Rattle.text.proofs.Puts.{put-no-byte, put-long}
 use Rattle.calls.proofs.Said.{spaced-more}
 use Rattle.calls.proofs.say.put_table.Statement.{statement}
 use Rattle.calls.proofs.say.put_table.Tie as tie
@@ -20,7 +20,7 @@ abbrev μ-loop : tie.MeasureT-loop
 μ-loop numbers out₀ at place₀ i₀ out place i = length numbers - i
 
 loop-holds : tie.Need-loop-holds Inv-loop μ-loop
-loop-holds c = (search needs, put-none)
+loop-holds c = (search needs, put-no-byte)
 
 mul-wide16 : tie.Need-mul-wide16 Inv-loop μ-loop
 mul-wide16 c = search needs
@@ -46,7 +46,7 @@ loop-again c =
     (search needs, spaced-more s (c .before .before .before .before .before .before .before .loop .i) (omega arith) (c .before .before .before .before .before .before .before .loop .inv .1) (c .before .before .before .before .wide16 .ensures) (c .before .before .put-spaced .ensures))
 
 same-length : tie.Need-same-length Inv-loop μ-loop
-same-length c = put-length (c .before .loop .inv .1)
+same-length c = put-long (c .before .loop .inv .1)
 
 returns : tie.Need-returns Inv-loop μ-loop
 returns c =
