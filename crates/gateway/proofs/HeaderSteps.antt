@@ -2,24 +2,25 @@
 --     eight-few, eight-all                    a header's eight numbers
 --     cleared-more                            a header cleared number by number
 --     row-bad, row-other, row-looked          what is printed for a line
---     byte-ends, byte-takes                   one byte of a line
+--     headers-byte-reads                      one byte of a line
 -- Assumes nothing.
-use Prim.Native.Nat.{ℕ, suc, _+_, _≤_, _<_}
+use Prim.Native.Nat.{ℕ, _+_, _≤_, _<_}
 use mathlib.Core.Bool.{Bool, true, false}
-use mathlib.Core.List.{List, [], _∷_, _++_}
-use mathlib.Core.Path.{_≡_, refl, sym, ap, _∙_}
+use mathlib.Core.List.{List, [], _∷_}
+use mathlib.Core.Path.{_≡_, refl, ap}
 use native.Mathlib.Omega.{arith}
 use native.Mathlib.Numerals.{add-one}
 use borrow.Author.Tests.{lt-ltb, le-ltb, eq-eqb, ne-eqb}
-use lib.ListN.{length, getD, take, set, replicate, length-set, replicate-append-replicate}
+use lib.ListN.{length, getD, take, set, replicate, replicate-append-replicate}
 use lib.Seq.{take-suc-set}
 use Rattle.lists.specs.Rules.{Rules, fieldsOf}
 use Rattle.lookup.specs.Lookup.{lookupOf}
-use Rattle.text.specs.Rows.{fresh, rowWith, rowNext, keptAt}
+use Rattle.lookup.specs.Bounds.{zeros}
+use Rattle.text.specs.Rows.{readByte}
 use Rattle.text.specs.declared.row.Row.{Row}
 use Rattle.gateway.specs.Said.{refusedSaid, lookedSaid}
-use Rattle.gateway.specs.HeaderLines.{zeros, eightOf, rowSaid}
-use Rattle.gateway.specs.HeaderBytes.{headersAt, headerState, headersByte}
+use Rattle.gateway.specs.HeaderLines.{eightOf, cellsSaid}
+use Rattle.gateway.specs.HeaderBytes.{headersNow, headerLine, headerState, headersWithin, headersByte}
 use Rattle.gateway.specs.declared.headers.Headers.{Headers}
 
 -- ---- a header's eight numbers
@@ -50,24 +51,21 @@ cleared-more xs i lt so-far = rw (add-one i, take-suc-set xs i 0 lt, so-far, rep
 
 -- ---- what is printed for a line
 module _ (R : Rules) (T : List ℕ) (good : Bool) (k : ℕ) (header : List ℕ) where
-  pub row-bad : good ≡ false → rowSaid R T good k header ≡ refusedSaid 8
-  unfolding rowSaid
+  pub row-bad : good ≡ false → cellsSaid R T good k header ≡ refusedSaid 8
+  unfolding cellsSaid
   row-bad e = rw e
 
-  pub row-other : good ≡ true → (k ≡ fieldsOf R → ⊥) → rowSaid R T good k header ≡ refusedSaid 8
-  unfolding rowSaid
+  pub row-other : good ≡ true → (k ≡ fieldsOf R → ⊥) → cellsSaid R T good k header ≡ refusedSaid 8
+  unfolding cellsSaid
   row-other e other = rw (e, ne-eqb k (fieldsOf R) other)
 
-  pub row-looked : good ≡ true → k ≡ fieldsOf R → rowSaid R T good k header ≡ lookedSaid (lookupOf R T (eightOf header))
-  unfolding rowSaid
+  pub row-looked : good ≡ true → k ≡ fieldsOf R → cellsSaid R T good k header ≡ lookedSaid (lookupOf R T (eightOf header))
+  unfolding cellsSaid
   row-looked e same = rw (e, eq-eqb k (fieldsOf R) same)
 
 -- ---- one byte of a line
-module _ (h : Headers) (header said : List ℕ) (b : ℕ) where
-  pub byte-ends : b ≡ 44 → headersAt (headerState true (rowNext (h .row))) (keptAt (h .row) 0 header) said ≡ headersByte (headersAt h header said) b
-  unfolding headersByte
-  byte-ends is = rw (eq-eqb b 44 is)
-
-  pub byte-takes : (b ≡ 44 → ⊥) → headersAt (headerState true (rowWith (h .row) b)) header said ≡ headersByte (headersAt h header said) b
-  unfolding headersByte
-  byte-takes other = rw (ne-eqb b 44 other)
+pub headers-byte-reads : (h : Headers) (header said : List ℕ) (b : ℕ) {row : Row} {run : List ℕ}
+    → record { row = row; run = run } ≡ readByte 44 0 (headerLine (headersNow h header said)) b
+    → headersNow (headerState true row) run said ≡ headersByte (headersNow h header said) b
+unfolding headersByte
+headers-byte-reads h header said b is = ap (λ s. headersWithin s said) is

@@ -1,26 +1,25 @@
 -- Laws of what becomes of the rules once their file has ended (`specs/Ready.antt`).
 --     verdict-fault, verdict-none, verdict-short, verdict-list       the verdict, way by way
---     Standing, verdict-stands                                       rules that stand
---     table-fits, table-made                                         the table of a list that stands
+--     Standing, verdict-stands, stands-within, stands-fine           rules that stand
+--     table-within, table-made                                       the table of a list that stands
 -- Assumes nothing.
-use Prim.Native.Nat.{ℕ, _+_, _*_, _≤_, _<_}
+use Prim.Native.Nat.{ℕ, _*_, _≤_, _<_}
 use mathlib.Core.Bool.{Bool, true, false}
 use mathlib.Core.List.{List, _++_}
 use mathlib.Core.Path.{_≡_, refl, sym, ap, _∙_}
 use native.Mathlib.Omega.{arith}
 use native.Mathlib.Nat.{mul-le-mul}
-use borrow.Author.Tests.{lt-ltb, le-ltb, eq-eqb, ne-eqb, eqb-true, eqb-false, ltb-true, ltb-false}
+use borrow.Author.Tests.{lt-ltb, le-ltb, eq-eqb, ne-eqb, eqb-false, ltb-false}
 use lib.ListN.{length, take, drop, length-append}
 use lib.Seq.{take-at, length-take-le}
 use lib.Dec.{ltb, eqb}
 use Rattle.ranges.specs.Numbers.{pick}
-use Rattle.ranges.specs.Refusals.{none, stands}
+use Rattle.ranges.specs.Refusals.{none}
 use Rattle.ranges.specs.declared.refusal.Count.{Count}
 use Rattle.lists.specs.Rules.{Rules as Listed, listed, fieldsOf, rulesIn}
 use Rattle.lists.specs.declared.shape.Shape.{Shape}
 use Rattle.lists.specs.Faults.{listFault}
 use Rattle.sorting.specs.Layout.{tableLength}
-use Rattle.sorting.specs.Table.{builtTable}
 use Rattle.sorting.specs.Build.{Built}
 use Rattle.lists.proofs.Sound.{list-shaped}
 use Rattle.sorting.proofs.Building.{fault-none}
@@ -71,25 +70,21 @@ module _ (r : Rules) (l : List ℕ) {v k : ℕ} (is : v ≡ verdictOf r l) (none
   pub stands-fine : {s : Shape} → s ≡ shapeRead r → listFault (listed s (take k l)) .number ≡ 0
   stands-fine {s} shape = rw (count, shape) (verdict-stands r l (sym is ∙ none) .fine)
 
--- ---- the table of a list that stands
-module _ (R : Listed) (fine : listFault R .number ≡ 0) where
-  pub few-rules : rulesIn R ≤ 1024
-  few-rules = list-shaped R fine .few-rules
-
-  pub few-fields : fieldsOf R ≤ 8
-  few-fields = list-shaped R fine .few-fields
-
-  pub table-fits : tableLength (rulesIn R) (fieldsOf R) ≤ 18436
+-- ---- the table of a list that stands, of n rules, in a run that is long enough
+module _ (R : Listed) (fine : listFault R .number ≡ 0) {n k : ℕ} (table : List ℕ) (room : 18436 ≤ length table) (rules : n ≡ rulesIn R)
+    (is : k ≡ tableLength n (fieldsOf R)) where
+  pub table-within : k ≤ length table
   unfolding tableLength
-  table-fits =
-      let product : rulesIn R * fieldsOf R ≤ 8192 = mul-le-mul few-rules few-fields in
-      omega (arith, few-rules)
+  table-within =
+      let shaped = list-shaped R fine in
+      let product : rulesIn R * fieldsOf R ≤ 8192 = mul-le-mul (shaped .few-rules) (shaped .few-fields) in
+      let same : n * fieldsOf R ≡ rulesIn R * fieldsOf R = rw rules in
+      omega (arith, shaped .few-rules)
 
-  pub table-made : (k : ℕ) (table : List ℕ) {after : List ℕ} {answer : Count} → k ≡ tableLength (rulesIn R) (fieldsOf R) → k ≤ length table
-      → Built R (take k table) after answer → length after ≡ length (take k table) → TableMade R k (after ++ drop k table)
-  table-made k table {after} {answer} is within built long =
-      let size : length (take k table) ≡ k = length-take-le k table within in
-      let nothing = fault-none R (take k table) (record { no-fault = fine; sized = record { long = size ∙ is } }) in
+  pub table-made : {after : List ℕ} {answer : Count} → Built R (take k table) after answer → length after ≡ length (take k table) → TableMade R k (after ++ drop k table)
+  table-made {after} built long =
+      let size : length (take k table) ≡ k = length-take-le k table table-within in
+      let nothing = fault-none R (take k table) (record { no-fault = fine; sized = record { long = size ∙ is ∙ ap (λ m. tableLength m (fieldsOf R)) rules } }) in
       let long' : length after ≡ k = long ∙ size in
       record {
         within = omega (arith, length-append after (drop k table));

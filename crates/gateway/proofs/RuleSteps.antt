@@ -1,22 +1,22 @@
 -- Laws of the rules file byte by byte (`specs/RuleBytes.antt`, `specs/RuleLines.antt`), way by way.
---     fault-bad, fault-same, fault-other, fault-odd, fault-wide, fault-none      the fault of a line
---     judged-fault, judged-fine                     the rules after a line
---     byte-stays, byte-many, byte-ends, byte-takes  one byte of a line
---     close-stays, close-many, close-judged         a line's end
+--     fault-bad, fault-same, fault-other, fault-odd, fault-wide, fault-narrow     the fault of a line
+--     Fine, fine-line                                                             a line without fault
+--     judged-fault, judged-fine, judged-narrow                                    the rules after a line
+--     rules-byte-stays, rules-byte-many, rules-byte-reads                         one byte of a line
+--     rules-close-stays, rules-close-many, rules-close-judged                     a line's end
 -- Assumes nothing.
-use Prim.Native.Nat.{ℕ, _+_, _*_, _%_, _^_, _≤_, _<_}
+use Prim.Native.Nat.{ℕ, _+_, _%_, _^_, _≤_, _<_}
 use mathlib.Core.Bool.{Bool, true, false}
-use mathlib.Core.List.{List, [], _∷_}
+use mathlib.Core.List.{List}
 use mathlib.Core.Path.{_≡_, refl, sym, ap, _∙_}
 use native.Mathlib.Omega.{arith}
-use borrow.Author.Tests.{lt-ltb, le-ltb, le-leb, lt-leb, eq-eqb, ne-eqb, ltb-true, ltb-false, eqb-true, eqb-false}
-use lib.Dec.{ltb, leb, eqb}
+use borrow.Author.Tests.{lt-ltb, le-ltb, le-leb, lt-leb, eq-eqb, ne-eqb, ltb-false, eqb-true, eqb-false}
+use lib.Dec.{ltb, eqb}
 use Rattle.ranges.specs.Numbers.{pick}
-use Rattle.ranges.proofs.Numbers.{never}
-use Rattle.text.specs.Rows.{fresh, rowWith, rowNext, keptAt}
+use Rattle.text.specs.Rows.{fresh, rowNext, keptAt, readByte}
 use Rattle.text.specs.declared.row.Row.{Row}
 use Rattle.gateway.specs.RuleLines.{widthFault, cellsFault}
-use Rattle.gateway.specs.RuleBytes.{RulesAt, rulesAt, ruleState, faultedBy, withRow, judgedBy, startsAt, rulesByte, rulesClose}
+use Rattle.gateway.specs.RuleBytes.{rulesNow, ruleLine, ruleState, faultedBy, withRow, judgedBy, startsAt, rulesWithin, rulesByte, rulesClose}
 use Rattle.gateway.specs.declared.rules.Rules.{Rules}
 
 -- ---- the fault of a line
@@ -42,9 +42,9 @@ module _ (i w : ℕ) (good : Bool) (k : ℕ) where
     unfolding cellsFault widthFault
     fault-wide first even wide = rw (fine, eq-eqb i 0 first, ne-eqb (k % 2) 1 even, lt-ltb 16 k wide)
 
-    pub fault-none : i ≡ 0 → (k % 2 ≡ 1 → ⊥) → k ≤ 16 → cellsFault i w good k ≡ 0
+    pub fault-narrow : i ≡ 0 → (k % 2 ≡ 1 → ⊥) → k ≤ 16 → cellsFault i w good k ≡ 0
     unfolding cellsFault widthFault
-    fault-none first even few = rw (fine, eq-eqb i 0 first, ne-eqb (k % 2) 1 even, le-ltb 16 k few)
+    fault-narrow first even few = rw (fine, eq-eqb i 0 first, ne-eqb (k % 2) 1 even, le-ltb 16 k few)
 
 -- a line without fault: its cells are numbers, and as many as the first line's, at most 16 and even on the first
 pub record Fine (i w : ℕ) (good : Bool) (k : ℕ) : Type 0 where
@@ -64,23 +64,15 @@ width-fine k none = go (eqb (k % 2) 1) (ltb 16 k) refl refl none
         let few : k ≤ 16 = ltb-false 16 k q in
         (omega arith, few)
 
-pub fault-fine : (i w : ℕ) (good : Bool) (k : ℕ) → cellsFault i w good k ≡ 0 → Fine i w good k
+pub fine-line : (i w : ℕ) (good : Bool) (k : ℕ) → cellsFault i w good k ≡ 0 → Fine i w good k
 unfolding cellsFault
-fault-fine i w false k none = absurd (omega arith)
-fault-fine i w true k none = go (eqb i 0) (eqb k w) refl refl none
+fine-line i w false k none = absurd (omega arith)
+fine-line i w true k none = go (eqb i 0) (eqb k w) refl refl none
   where
     go : (s t : Bool) → eqb i 0 ≡ s → eqb k w ≡ t → _≡_ {A = ℕ} (pick s (widthFault k) (pick t 0 8)) 0 → Fine i w true k
     go true t p q e = record { numbers = refl; first = λ z. width-fine k e; later = λ nz. absurd (nz (eqb-true i 0 p)) }
     go false true p q e = record { numbers = refl; first = λ z. absurd (eqb-false i 0 p z); later = λ nz. eqb-true k w q }
     go false false p q e = absurd (omega arith)
-
--- the count of such a line fits 16 bits where the first line's does
-pub fine-narrow : {i w : ℕ} {good : Bool} {k : ℕ} → Fine i w good k → w < 2 ^ 16 → k < 2 ^ 16
-fine-narrow {i} {w} {good} {k} fine small = go (eqb i 0) refl
-  where
-    go : (t : Bool) → eqb i 0 ≡ t → k < 2 ^ 16
-    go true e = let f = fine .first (eqb-true i 0 e) in omega arith
-    go false e = let f = fine .later (eqb-false i 0 e) in omega arith
 
 -- ---- the rules after a line
 module _ (r : Rules) (row : Row) {f : ℕ} (is : f ≡ cellsFault (r .lines) (r .width) (row .good) (row .cells)) where
@@ -92,34 +84,42 @@ module _ (r : Rules) (row : Row) {f : ℕ} (is : f ≡ cellsFault (r .lines) (r 
   unfolding judgedBy
   judged-fine none = rw (← is, eq-eqb f 0 none)
 
+  -- the count of a line without fault fits 16 bits where the first line's does
+  pub judged-narrow : f ≡ 0 → r .width < 2 ^ 16 → row .cells < 2 ^ 16
+  judged-narrow none small = go (eqb (r .lines) 0) refl
+    where
+      fine : Fine (r .lines) (r .width) (row .good) (row .cells)
+      fine = fine-line (r .lines) (r .width) (row .good) (row .cells) (sym is ∙ none)
+
+      go : (t : Bool) → eqb (r .lines) 0 ≡ t → row .cells < 2 ^ 16
+      go true e = let f = fine .first (eqb-true (r .lines) 0 e) in omega arith
+      go false e = let f = fine .later (eqb-false (r .lines) 0 e) in omega arith
+
 -- ---- one byte of a line, and a line's end
 module _ (r : Rules) (list : List ℕ) where
-  pub byte-stays : (b : ℕ) → (r .fault ≡ 0 → ⊥) → rulesAt r list ≡ rulesByte (rulesAt r list) b
+  pub rules-byte-stays : (b : ℕ) → (r .fault ≡ 0 → ⊥) → rulesNow r list ≡ rulesByte (rulesNow r list) b
   unfolding rulesByte
-  byte-stays b some = rw (ne-eqb (r .fault) 0 some)
+  rules-byte-stays b some = rw (ne-eqb (r .fault) 0 some)
 
-  pub close-stays : (r .fault ≡ 0 → ⊥) → rulesAt r list ≡ rulesClose (rulesAt r list)
+  pub rules-close-stays : (r .fault ≡ 0 → ⊥) → rulesNow r list ≡ rulesClose (rulesNow r list)
   unfolding rulesClose
-  close-stays some = rw (ne-eqb (r .fault) 0 some)
+  rules-close-stays some = rw (ne-eqb (r .fault) 0 some)
 
   module _ (none : r .fault ≡ 0) where
-    pub byte-many : (b : ℕ) → 1024 ≤ r .lines → rulesAt (faultedBy r 3) list ≡ rulesByte (rulesAt r list) b
+    pub rules-byte-many : (b : ℕ) → 1024 ≤ r .lines → rulesNow (faultedBy r 3) list ≡ rulesByte (rulesNow r list) b
     unfolding rulesByte
-    byte-many b many = rw (eq-eqb (r .fault) 0 none, le-leb 1024 (r .lines) many)
+    rules-byte-many b many = rw (eq-eqb (r .fault) 0 none, le-leb 1024 (r .lines) many)
 
-    pub close-many : 1024 ≤ r .lines → rulesAt (faultedBy r 3) list ≡ rulesClose (rulesAt r list)
+    pub rules-close-many : 1024 ≤ r .lines → rulesNow (faultedBy r 3) list ≡ rulesClose (rulesNow r list)
     unfolding rulesClose
-    close-many many = rw (eq-eqb (r .fault) 0 none, le-leb 1024 (r .lines) many)
+    rules-close-many many = rw (eq-eqb (r .fault) 0 none, le-leb 1024 (r .lines) many)
 
-    module _ (few : r .lines < 1024) where
-      pub byte-ends : (b : ℕ) → b ≡ 44 → rulesAt (withRow r (rowNext (r .row))) (keptAt (r .row) (startsAt r) list) ≡ rulesByte (rulesAt r list) b
+    module _ (few : r .lines < 1024) {row : Row} {run : List ℕ} where
+      pub rules-byte-reads : (b : ℕ) → record { row = row; run = run } ≡ readByte 44 (startsAt r) (ruleLine (rulesNow r list)) b
+          → rulesNow (withRow r row) run ≡ rulesByte (rulesNow r list) b
       unfolding rulesByte
-      byte-ends b is = rw (eq-eqb (r .fault) 0 none, lt-leb 1024 (r .lines) few, eq-eqb b 44 is)
+      rules-byte-reads b is = rw (eq-eqb (r .fault) 0 none, lt-leb 1024 (r .lines) few) (ap (rulesWithin r) is)
 
-      pub byte-takes : (b : ℕ) → (b ≡ 44 → ⊥) → rulesAt (withRow r (rowWith (r .row) b)) list ≡ rulesByte (rulesAt r list) b
-      unfolding rulesByte
-      byte-takes b other = rw (eq-eqb (r .fault) 0 none, lt-leb 1024 (r .lines) few, ne-eqb b 44 other)
-
-      pub close-judged : rulesAt (judgedBy r (rowNext (r .row))) (keptAt (r .row) (startsAt r) list) ≡ rulesClose (rulesAt r list)
+      pub rules-close-judged : row ≡ rowNext (r .row) → run ≡ keptAt (r .row) (startsAt r) list → rulesNow (judgedBy r row) run ≡ rulesClose (rulesNow r list)
       unfolding rulesClose
-      close-judged = rw (eq-eqb (r .fault) 0 none, lt-leb 1024 (r .lines) few)
+      rules-close-judged is kept = rw (eq-eqb (r .fault) 0 none, lt-leb 1024 (r .lines) few, is, kept)

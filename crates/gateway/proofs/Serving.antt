@@ -2,15 +2,15 @@
 -- Assumes nothing.
 use Prim.Native.Nat.{ℕ, _+_, _-_, _≤_, _<_}
 use mathlib.Core.List.{List}
-use mathlib.Core.Path.{_≡_, subst, ap}
+use mathlib.Core.Path.{_≡_, subst}
 use native.Mathlib.Omega.{arith}
 use lib.ListN.{length, take, drop, length-take, length-drop}
 use Rattle.gateway.specs.Serving.{Roomy, Readied}
-use Rattle.gateway.specs.HeaderBytes.{Taken}
-use Rattle.gateway.specs.declared.serve.Room.{Room}
-use Rattle.gateway.specs.declared.serve.Room.the-variants.{At}
-use Rattle.gateway.specs.declared.serve.Got.{Got}
-use Rattle.gateway.specs.declared.serve.Got.the-variants.{Bytes}
+use Rattle.gateway.specs.Printing.{Taken}
+use Rattle.gateway.specs.declared.output.Room.{Room}
+use Rattle.gateway.specs.declared.output.Room.the-variants.{At}
+use Rattle.gateway.specs.declared.input.Got.{Got}
+use Rattle.gateway.specs.declared.input.Got.the-variants.{Bytes}
 
 pub roomy-at : {r : Room} {k n : ℕ} → r ≡ At k → Roomy r n → k + 64 ≤ n
 roomy-at {r} {k} {n} is roomy = subst (λ x. Roomy x n) is roomy

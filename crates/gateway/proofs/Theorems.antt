@@ -9,10 +9,10 @@
 --     no-rules               an empty rules file is refused with 1
 --
 -- The contracts tie the code to these definitions: `rules_feed`, `rules_finish`, `verdict`, `make_table`, `headers_feed`,
--- `headers_finish`, `put_head` and `put_refused`. What is left to testing is that `serve` and `main` hand each the bytes that
--- were read and write the bytes that were put.
+-- `headers_finish`, `put_head` and `put_refused`. What is left to testing is that the files that call the system hand each the
+-- bytes that were read and write the bytes that were put.
 -- Assumes nothing.
-use Prim.Native.Nat.{ℕ, _+_, _≤_, _<_}
+use Prim.Native.Nat.{ℕ, _+_, _≤_}
 use mathlib.Core.Bool.{Bool, true, false}
 use mathlib.Core.List.{List, [], _∷_, _++_, append-nil}
 use mathlib.Core.Path.{_≡_, refl, sym, ap, _∙_}
@@ -22,44 +22,45 @@ use lib.Dec.{eqb}
 use lib.ListN.{length, length-append}
 use lib.Seq.{take-all, length-take-le}
 use Rattle.ranges.specs.Numbers.{pick}
-use Rattle.lists.specs.Rules.{Rules, fieldsOf}
+use Rattle.lists.specs.Rules.{fieldsOf}
 use Rattle.lists.specs.Faults.{listFault}
 use Rattle.lists.specs.FirstMatch.{firstMatch}
 use Rattle.sorting.specs.Table.{builtTable}
 use Rattle.lists.proofs.Sound.{list-shaped}
 use Rattle.lookup.specs.Lookup.{lookupOf, answerOf, testsIn}
+use Rattle.lookup.specs.Bounds.{zeros}
 use Rattle.lookup.proofs.Theorems.{built-lookup}
 use Rattle.text.specs.Cells.{fed}
 use Rattle.text.specs.Rows.{allNumbers, valuesOf}
 use Rattle.text.proofs.Feeding.{fed-append}
 use Rattle.gateway.specs.Files.{linesOf}
 use Rattle.gateway.specs.Said.{headSaid, refusedSaid, lookedSaid}
-use Rattle.gateway.specs.RuleLines.{cellsOf, linesRead, rulesOf, rulesFault}
-use Rattle.gateway.specs.RuleBytes.{RulesAt}
-use Rattle.gateway.specs.HeaderLines.{zeros, eightOf, headerOf, lineSaid, linesSaid}
+use Rattle.gateway.specs.RuleLines.{cellsOf, linesRead, rulesFrom, rulesFault}
+use Rattle.gateway.specs.RuleBytes.{RulesNow}
+use Rattle.gateway.specs.HeaderLines.{eightOf, headerOf, lineSaid, linesSaid}
 use Rattle.gateway.specs.Program.{answered, programOf, rulesEnd, printedBy, printedOf, joined, fedPieces}
 use Rattle.gateway.proofs.HeaderSteps.{row-looked}
 use Rattle.gateway.proofs.HeadersRead.{headers-read}
 use Rattle.gateway.proofs.RulesRead.{Rendered, rules-read}
 
 -- rules without a fault have at most eight fields
-stands-checked : (ls : List (List ℕ)) → rulesFault ls ≡ 0 → listFault (rulesOf ls) .number ≡ 0
+stands-checked : (ls : List (List ℕ)) → rulesFault ls ≡ 0 → listFault (rulesFrom ls) .number ≡ 0
 stands-checked ls none = go (eqb (linesRead ls) 0) refl none
   where
-    go : (t : Bool) → eqb (linesRead ls) 0 ≡ t → pick t (listFault (rulesOf ls) .number) (linesRead ls) ≡ 0 → listFault (rulesOf ls) .number ≡ 0
+    go : (t : Bool) → eqb (linesRead ls) 0 ≡ t → pick t (listFault (rulesFrom ls) .number) (linesRead ls) ≡ 0 → listFault (rulesFrom ls) .number ≡ 0
     go true p e = e
     go false p e = absurd (eqb-false (linesRead ls) 0 p e)
 
 -- ---- what is printed
-module _ (y : RulesAt) (ls : List (List ℕ)) (read : Rendered ls y) (hb : List ℕ) where
+module _ (y : RulesNow) (ls : List (List ℕ)) (read : Rendered ls y) (hb : List ℕ) where
   -- a fault
   printed-fault : (rulesFault ls ≡ 0 → ⊥) → printedBy y hb ≡ refusedSaid (rulesFault ls)
   printed-fault some = rw (read .verdict, ne-eqb (rulesFault ls) 0 some)
 
   -- rules that stand
-  printed-answers : rulesFault ls ≡ 0 → printedBy y hb ≡ answered (rulesOf ls) (linesOf hb)
+  printed-answers : rulesFault ls ≡ 0 → printedBy y hb ≡ answered (rulesFrom ls) (linesOf hb)
   printed-answers none =
-      let R = rulesOf ls in
+      let R = rulesFrom ls in
       let few : fieldsOf R ≤ 8 = list-shaped R (stands-checked ls none) .few-fields in
       rw (read .verdict, eq-eqb (rulesFault ls) 0 none, read .list none) (ap (λ w. headSaid ++ w) (headers-read R (builtTable R) few hb))
 
@@ -72,7 +73,7 @@ program-is list rb hb size = go (eqb (rulesFault (linesOf rb)) 0) refl
     read = rules-read list rb size
 
     go : (t : Bool) → eqb (rulesFault (linesOf rb)) 0 ≡ t
-        → printedBy (rulesEnd list rb) hb ≡ pick t (answered (rulesOf (linesOf rb)) (linesOf hb)) (refusedSaid (rulesFault (linesOf rb)))
+        → printedBy (rulesEnd list rb) hb ≡ pick t (answered (rulesFrom (linesOf rb)) (linesOf hb)) (refusedSaid (rulesFault (linesOf rb)))
     go true e = printed-answers (rulesEnd list rb) (linesOf rb) read hb (eqb-true (rulesFault (linesOf rb)) 0 e)
     go false e = printed-fault (rulesEnd list rb) (linesOf rb) read hb (eqb-false (rulesFault (linesOf rb)) 0 e)
 
@@ -89,7 +90,7 @@ module _ (rb hb : List ℕ) where
   unfolding programOf
   refused-alone some = rw (ne-eqb (rulesFault (linesOf rb)) 0 some)
 
-  pub answers-all : rulesFault (linesOf rb) ≡ 0 → programOf rb hb ≡ headSaid ++ linesSaid (rulesOf (linesOf rb)) (builtTable (rulesOf (linesOf rb))) (linesOf hb)
+  pub answers-all : rulesFault (linesOf rb) ≡ 0 → programOf rb hb ≡ headSaid ++ linesSaid (rulesFrom (linesOf rb)) (builtTable (rulesFrom (linesOf rb))) (linesOf hb)
   unfolding programOf
   answers-all none = rw (eq-eqb (rulesFault (linesOf rb)) 0 none)
 
@@ -116,12 +117,12 @@ header-eight cells =
     rw (le-ltb (length (headerOf cells)) 8 over) (take-all 8 (headerOf cells) all)
 
 -- a header line of d cells, all numbers, is answered with the first rule that fits it, or none, and the tests of the lookup
-pub line-first-match : (ls : List (List ℕ)) → rulesFault ls ≡ 0 → (l : List ℕ) → allNumbers (cellsOf l) ≡ true → length (cellsOf l) ≡ fieldsOf (rulesOf ls)
-    → let R = rulesOf ls in
+pub line-first-match : (ls : List (List ℕ)) → rulesFault ls ≡ 0 → (l : List ℕ) → allNumbers (cellsOf l) ≡ true → length (cellsOf l) ≡ fieldsOf (rulesFrom ls)
+    → let R = rulesFrom ls in
     let h = headerOf (cellsOf l) in
     lineSaid R (builtTable R) l ≡ lookedSaid (answerOf R (firstMatch R h) (testsIn (lookupOf R (builtTable R) h)))
 line-first-match ls none l good count =
-    let R = rulesOf ls in
+    let R = rulesFrom ls in
     let h = headerOf (cellsOf l) in
     row-looked R (builtTable R) (allNumbers (cellsOf l)) (length (cellsOf l)) h good count
     ∙ ap (λ k. lookedSaid (lookupOf R (builtTable R) k)) (header-eight (cellsOf l))

@@ -21,36 +21,36 @@ linesOf (b ∷ c ∷ bs) = pick (eqb b 13 and eqb c 10) ([] ∷ linesOf bs) (inF
 
 -- ---- byte by byte
 -- a reader's state, and whether the last byte was a CR of which it is not known yet whether it ends the line
-pub record Held (X : Type 0) : Type 0 where
+pub record InFile (X : Type 0) : Type 0 where
   pub cr : Bool
   pub at : X
 
-abbrev pub held : {X : Type 0} → Bool → X → Held X
-held t x = record { cr = t; at = x }
+abbrev pub inFile : {X : Type 0} → Bool → X → InFile X
+inFile t x = record { cr = t; at = x }
 
 -- a byte where no CR waits: a CR waits, any other byte is one of the line
-abbrev pub plain : {X : Type 0} → (X → ℕ → X) → X → ℕ → Held X
-plain byte x b = pick (eqb b 13) (held true x) (held false (byte x b))
+unfoldable pub plain : {X : Type 0} → (X → ℕ → X) → X → ℕ → InFile X
+plain byte x b = pick (eqb b 13) (inFile true x) (inFile false (byte x b))
 
 -- one byte of a file, for a reader that does `byte` for a byte of a line and `close` for a line's end: a CR that LF
 -- follows ends the line, and one that another byte follows is a byte of the line
-unfoldable pub step : {X : Type 0} → (X → ℕ → X) → (X → X) → Held X → ℕ → Held X
-step byte close s b = pick (s .cr) (pick (eqb b 10) (held false (close (s .at))) (plain byte (byte (s .at) 13) b)) (plain byte (s .at) b)
+unfoldable pub step : {X : Type 0} → (X → ℕ → X) → (X → X) → InFile X → ℕ → InFile X
+step byte close s b = pick (s .cr) (pick (eqb b 10) (inFile false (close (s .at))) (plain byte (byte (s .at) 13) b)) (plain byte (s .at) b)
 
 -- a CR that nothing follows is a byte of the line
-abbrev pub settled : {X : Type 0} → (X → ℕ → X) → Held X → X
+abbrev pub settled : {X : Type 0} → (X → ℕ → X) → InFile X → X
 settled byte s = pick (s .cr) (byte (s .at) 13) (s .at)
 
 -- the end of the present line, where a byte of it has come
-abbrev pub endOf : {X : Type 0} → (X → X) → (X → Bool) → X → X
-endOf close begun x = pick (begun x) (close x) x
+unfoldable pub lastLine : {X : Type 0} → (X → X) → (X → Bool) → X → X
+lastLine close begun x = pick (begun x) (close x) x
 
 -- the file's end
-unfoldable pub finish : {X : Type 0} → (X → ℕ → X) → (X → X) → (X → Bool) → Held X → X
-finish byte close begun s = endOf close begun (settled byte s)
+unfoldable pub finish : {X : Type 0} → (X → ℕ → X) → (X → X) → (X → Bool) → InFile X → X
+finish byte close begun s = lastLine close begun (settled byte s)
 
 -- ---- line by line
 -- whole lines one after the other
 abbrev pub overLines : {X : Type 0} → (X → ℕ → X) → (X → X) → (X → Bool) → X → List (List ℕ) → X
-overLines byte close begun x [] = endOf close begun x
+overLines byte close begun x [] = lastLine close begun x
 overLines byte close begun x (l ∷ ls) = overLines byte close begun (close (fed byte x l)) ls

@@ -2,32 +2,33 @@
 -- to, and what has been printed. That this comes to what `HeaderLines.antt` says of its lines is `headers-read` of
 -- `proofs/HeadersRead.antt`.
 -- Assumes nothing: these are definitions.
-use Prim.Native.Nat.{ℕ, _+_, _≤_, _<_}
+use Prim.Native.Nat.{ℕ}
 use mathlib.Core.Bool.{Bool, true, false}
-use mathlib.Core.List.{List, [], _∷_, _++_}
-use mathlib.Core.Path.{_≡_}
-use lib.ListN.{length, take, replicate}
-use lib.Dec.{eqb}
-use Rattle.ranges.specs.Numbers.{pick}
+use mathlib.Core.List.{List, _++_}
+use lib.ListN.{length, replicate}
 use Rattle.lists.specs.Rules.{Rules}
-use Rattle.text.specs.Rows.{fresh, rowWith, rowNext, keptAt}
+use Rattle.text.specs.Rows.{fresh, Reading, ended, readByte}
 use Rattle.text.specs.declared.row.Row.{Row}
-use Rattle.gateway.specs.Files.{Held, held}
-use Rattle.gateway.specs.HeaderLines.{rowSaid}
+use Rattle.gateway.specs.Files.{InFile, inFile}
+use Rattle.gateway.specs.HeaderLines.{cellsSaid}
 use Rattle.gateway.specs.declared.headers.Headers.{Headers}
 use Rattle.gateway.specs.declared.headers.HeadersFile.{HeadersFile}
 
 -- the headers as far as they have been read, the header, and what has been printed
-pub record HeadersAt : Type 0 where
+pub record HeadersNow : Type 0 where
   pub headers : Headers
   pub header : List ℕ
   pub said : List ℕ
 
-abbrev pub headersAt : Headers → List ℕ → List ℕ → HeadersAt
-headersAt h header said = record { headers = h; header = header; said = said }
+abbrev pub headersNow : Headers → List ℕ → List ℕ → HeadersNow
+headersNow h header said = record { headers = h; header = header; said = said }
 
-abbrev pub headersHeld : HeadersFile → List ℕ → List ℕ → Held HeadersAt
-headersHeld f header said = held (f .cr) (headersAt (f .headers) header said)
+abbrev pub headersInFile : HeadersFile → List ℕ → List ℕ → InFile HeadersNow
+headersInFile f header said = inFile (f .cr) (headersNow (f .headers) header said)
+
+-- the present line and the header that its numbers go to, as the crate text reads them
+abbrev pub headerLine : HeadersNow → Reading
+headerLine x = record { row = x .headers .row; run = x .header }
 
 abbrev pub headerState : Bool → Row → Headers
 headerState begun row = record { begun = begun; row = row }
@@ -36,40 +37,23 @@ headerState begun row = record { begun = begun; row = row }
 abbrev pub noHeaders : HeadersFile
 noHeaders = record { cr = false; headers = headerState false fresh }
 
--- one byte of a line
-unfoldable pub headersByte : HeadersAt → ℕ → HeadersAt
-headersByte x b =
-    pick (eqb b 44)
-    (headersAt (headerState true (rowNext (x .headers .row))) (keptAt (x .headers .row) 0 (x .header)) (x .said))
-    (headersAt (headerState true (rowWith (x .headers .row) b)) (x .header) (x .said))
+-- the headers after a byte of the present line
+abbrev pub headersWithin : Reading → List ℕ → HeadersNow
+headersWithin s said = headersNow (headerState true (s .row)) (s .run) said
 
--- a line's end: its answer is printed, and the header is cleared
-unfoldable pub headersClose : Rules → List ℕ → HeadersAt → HeadersAt
-headersClose R T x =
-    headersAt (headerState false fresh) (replicate (length (x .header)) 0)
-    (x .said ++ rowSaid R T (rowNext (x .headers .row) .good) (rowNext (x .headers .row) .cells) (keptAt (x .headers .row) 0 (x .header)))
+-- the headers after the last cell of the present line: its answer is printed, and the header is cleared
+abbrev pub headersAnswered : Rules → List ℕ → Reading → List ℕ → HeadersNow
+headersAnswered R T s said =
+    headersNow (headerState false fresh) (replicate (length (s .run)) 0) (said ++ cellsSaid R T (s .row .good) (s .row .cells) (s .run))
+
+-- one byte of a line
+unfoldable pub headersByte : HeadersNow → ℕ → HeadersNow
+headersByte x b = headersWithin (readByte 44 0 (headerLine x) b) (x .said)
+
+-- a line's end
+unfoldable pub headersClose : Rules → List ℕ → HeadersNow → HeadersNow
+headersClose R T x = headersAnswered R T (ended 0 (headerLine x)) (x .said)
 
 -- a byte of the present line has come
-abbrev pub headersBegun : HeadersAt → Bool
+abbrev pub headersBegun : HeadersNow → Bool
 headersBegun x = x .headers .begun
-
--- ---- what the code leaves
--- bytes put from a place on, none left out
-pub record Wrote (out : List ℕ) (at : ℕ) (bs : List ℕ) (after : List ℕ) (next : ℕ) : Type 0 where
-  pub place : next ≡ at + length bs
-  pub bytes : take next after ≡ take at out ++ bs
-  pub long : length after ≡ length out
-
--- s is what is defined of the bytes read; the code has these headers and this header, and has printed the rest of s
-pub record PrintedAt (s : HeadersAt) (h : Headers) (header out : List ℕ) (at : ℕ) (after : List ℕ) (next : ℕ) : Type 0 where
-  pub reads : s ≡ headersAt h header (s .said)
-  pub prints : Wrote out at (s .said) after next
-
-pub record PrintedFile (s : Held HeadersAt) (f : HeadersFile) (header out : List ℕ) (at : ℕ) (after : List ℕ) (next : ℕ) : Type 0 where
-  pub reads : s ≡ headersHeld f header (s .at .said)
-  pub prints : Wrote out at (s .at .said) after next
-
--- of n bytes these were read: no more than there are, and one at least where there are some
-pub record Taken (used n : ℕ) : Type 0 where
-  pub most : used ≤ n
-  pub some : 0 < n → 0 < used

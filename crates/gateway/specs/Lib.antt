@@ -4,6 +4,7 @@ pub mod RuleBytes
 pub mod Said
 pub mod HeaderLines
 pub mod HeaderBytes
+pub mod Printing
 pub mod Ready
 pub mod Serving
 pub mod Program

@@ -9,13 +9,14 @@ use lib.Dec.{eqb}
 use Rattle.ranges.specs.Numbers.{pick}
 use Rattle.lists.specs.Rules.{Rules}
 use Rattle.sorting.specs.Table.{builtTable}
+use Rattle.lookup.specs.Bounds.{zeros}
 use Rattle.text.specs.Cells.{fed}
 use Rattle.gateway.specs.Files.{linesOf, step, finish}
 use Rattle.gateway.specs.Said.{headSaid, refusedSaid}
-use Rattle.gateway.specs.RuleLines.{rulesOf, rulesFault}
-use Rattle.gateway.specs.RuleBytes.{RulesAt, rulesHeld, noRules, rulesByte, rulesClose, rulesBegun}
-use Rattle.gateway.specs.HeaderLines.{zeros, linesSaid}
-use Rattle.gateway.specs.HeaderBytes.{headersHeld, noHeaders, headersByte, headersClose, headersBegun}
+use Rattle.gateway.specs.RuleLines.{rulesFrom, rulesFault}
+use Rattle.gateway.specs.RuleBytes.{RulesNow, rulesInFile, noRules, rulesByte, rulesClose, rulesBegun}
+use Rattle.gateway.specs.HeaderLines.{linesSaid}
+use Rattle.gateway.specs.HeaderBytes.{headersInFile, noHeaders, headersByte, headersClose, headersBegun}
 use Rattle.gateway.specs.Ready.{listRead, verdictOf}
 
 -- ---- by the files' lines
@@ -26,20 +27,20 @@ answered R headers = headSaid ++ linesSaid R (builtTable R) headers
 -- a fault in the rules prints the single line refused,NUMBER and ends
 unfoldable pub programOf : List ℕ → List ℕ → List ℕ
 programOf rules headers =
-    pick (eqb (rulesFault (linesOf rules)) 0) (answered (rulesOf (linesOf rules)) (linesOf headers)) (refusedSaid (rulesFault (linesOf rules)))
+    pick (eqb (rulesFault (linesOf rules)) 0) (answered (rulesFrom (linesOf rules)) (linesOf headers)) (refusedSaid (rulesFault (linesOf rules)))
 
 -- ---- as the code goes
 -- the rules once the bytes of their file have ended, read into a run of numbers
-abbrev pub rulesEnd : List ℕ → List ℕ → RulesAt
-rulesEnd list bytes = finish rulesByte rulesClose rulesBegun (fed (step rulesByte rulesClose) (rulesHeld noRules list) bytes)
+abbrev pub rulesEnd : List ℕ → List ℕ → RulesNow
+rulesEnd list bytes = finish rulesByte rulesClose rulesBegun (fed (step rulesByte rulesClose) (rulesInFile noRules list) bytes)
 
 -- what has been printed once the bytes of the headers file have ended
 abbrev pub headersEnd : Rules → List ℕ → List ℕ → List ℕ
 headersEnd R T bytes =
-    finish headersByte (headersClose R T) headersBegun (fed (step headersByte (headersClose R T)) (headersHeld noHeaders zeros []) bytes) .said
+    finish headersByte (headersClose R T) headersBegun (fed (step headersByte (headersClose R T)) (headersInFile noHeaders zeros []) bytes) .said
 
 -- what becomes of rules that have been read
-abbrev pub printedBy : RulesAt → List ℕ → List ℕ
+abbrev pub printedBy : RulesNow → List ℕ → List ℕ
 printedBy y headers =
     pick (eqb (verdictOf (y .rules) (y .list)) 0)
     (headSaid ++ headersEnd (listRead (y .rules) (y .list)) (builtTable (listRead (y .rules) (y .list))) headers)

@@ -7,23 +7,27 @@ use mathlib.Core.List.{List}
 use lib.Dec.{leb, eqb}
 use Rattle.ranges.specs.Numbers.{pick}
 use Rattle.ranges.specs.Refusals.{numberOf, TooManyRules}
-use Rattle.text.specs.Rows.{fresh, rowWith, rowNext, keptAt}
+use Rattle.text.specs.Rows.{fresh, Reading, ended, readByte}
 use Rattle.text.specs.declared.row.Row.{Row}
-use Rattle.gateway.specs.Files.{Held, held}
+use Rattle.gateway.specs.Files.{InFile, inFile}
 use Rattle.gateway.specs.RuleLines.{cellsFault}
 use Rattle.gateway.specs.declared.rules.Rules.{Rules}
 use Rattle.gateway.specs.declared.rules.RulesFile.{RulesFile}
 
 -- the rules as far as they have been read, with the list
-pub record RulesAt : Type 0 where
+pub record RulesNow : Type 0 where
   pub rules : Rules
   pub list : List ℕ
 
-abbrev pub rulesAt : Rules → List ℕ → RulesAt
-rulesAt r l = record { rules = r; list = l }
+abbrev pub rulesNow : Rules → List ℕ → RulesNow
+rulesNow r l = record { rules = r; list = l }
 
-abbrev pub rulesHeld : RulesFile → List ℕ → Held RulesAt
-rulesHeld f l = held (f .cr) (rulesAt (f .rules) l)
+abbrev pub rulesInFile : RulesFile → List ℕ → InFile RulesNow
+rulesInFile f l = inFile (f .cr) (rulesNow (f .rules) l)
+
+-- the present line and the run that its numbers go to, as the crate text reads them
+abbrev pub ruleLine : RulesNow → Reading
+ruleLine x = record { row = x .rules .row; run = x .list }
 
 abbrev pub ruleState : Bool → Row → ℕ → ℕ → ℕ → Rules
 ruleState begun row lines width fault = record { begun = begun; row = row; lines = lines; width = width; fault = fault }
@@ -51,24 +55,29 @@ judgedBy r row =
 abbrev pub startsAt : Rules → ℕ
 startsAt r = r .lines * r .width
 
+-- the rules after a byte, and after the last cell, of the present line
+abbrev pub rulesWithin : Rules → Reading → RulesNow
+rulesWithin r s = rulesNow (withRow r (s .row)) (s .run)
+
+abbrev pub rulesJudged : Rules → Reading → RulesNow
+rulesJudged r s = rulesNow (judgedBy r (s .row)) (s .run)
+
 -- one byte of a line
-unfoldable pub rulesByte : RulesAt → ℕ → RulesAt
+unfoldable pub rulesByte : RulesNow → ℕ → RulesNow
 rulesByte x b =
     pick (eqb (x .rules .fault) 0)
-    (pick (leb 1024 (x .rules .lines)) (rulesAt (faultedBy (x .rules) (numberOf TooManyRules)) (x .list))
-    (pick (eqb b 44)
-    (rulesAt (withRow (x .rules) (rowNext (x .rules .row))) (keptAt (x .rules .row) (startsAt (x .rules)) (x .list)))
-    (rulesAt (withRow (x .rules) (rowWith (x .rules .row) b)) (x .list))))
+    (pick (leb 1024 (x .rules .lines)) (rulesNow (faultedBy (x .rules) (numberOf TooManyRules)) (x .list))
+    (rulesWithin (x .rules) (readByte 44 (startsAt (x .rules)) (ruleLine x) b)))
     x
 
 -- a line's end
-unfoldable pub rulesClose : RulesAt → RulesAt
+unfoldable pub rulesClose : RulesNow → RulesNow
 rulesClose x =
     pick (eqb (x .rules .fault) 0)
-    (pick (leb 1024 (x .rules .lines)) (rulesAt (faultedBy (x .rules) (numberOf TooManyRules)) (x .list))
-    (rulesAt (judgedBy (x .rules) (rowNext (x .rules .row))) (keptAt (x .rules .row) (startsAt (x .rules)) (x .list))))
+    (pick (leb 1024 (x .rules .lines)) (rulesNow (faultedBy (x .rules) (numberOf TooManyRules)) (x .list))
+    (rulesJudged (x .rules) (ended (startsAt (x .rules)) (ruleLine x))))
     x
 
 -- a byte of the present line has come
-abbrev pub rulesBegun : RulesAt → Bool
+abbrev pub rulesBegun : RulesNow → Bool
 rulesBegun x = x .rules .begun

@@ -20,8 +20,8 @@ abbrev pub cellsOf : List ℕ → List (List ℕ)
 cellsOf line = cellsIn 44 line
 
 -- the first of two faults
-abbrev pub firstOf : ℕ → ℕ → ℕ
-firstOf f g = pick (eqb f 0) g f
+abbrev pub firstFault : ℕ → ℕ → ℕ
+firstFault f g = pick (eqb f 0) g f
 
 -- the number of cells of the first line: odd gives 8, even but not 2 to 16 gives 1
 unfoldable pub widthFault : ℕ → ℕ
@@ -31,14 +31,18 @@ widthFault k = pick (eqb (k % 2) 1) (numberOf BadLine) (pick (ltb 16 k) (numberO
 unfoldable pub cellsFault : ℕ → ℕ → Bool → ℕ → ℕ
 cellsFault i w good k = pick good (pick (eqb i 0) (widthFault k) (pick (eqb k w) 0 (numberOf BadLine))) (numberOf BadLine)
 
+-- the same of a line's bytes
+abbrev pub ownFault : ℕ → ℕ → List ℕ → ℕ
+ownFault i w line = cellsFault i w (allNumbers (cellsOf line)) (length (cellsOf line))
+
 -- a line after i lines: the 1,025th gives 3, whatever stands on it
-abbrev pub lineFault : ℕ → ℕ → List (List ℕ) → ℕ
-lineFault i w cells = pick (leb 1024 i) (numberOf TooManyRules) (cellsFault i w (allNumbers cells) (length cells))
+abbrev pub lineFault : ℕ → ℕ → List ℕ → ℕ
+lineFault i w line = pick (leb 1024 i) (numberOf TooManyRules) (ownFault i w line)
 
 -- the first fault of lines after i lines, where the first line has w cells
 abbrev pub linesFault : ℕ → ℕ → List (List ℕ) → ℕ
 linesFault i w [] = 0
-linesFault i w (l ∷ ls) = firstOf (lineFault i w (cellsOf l)) (linesFault (suc i) w ls)
+linesFault i w (l ∷ ls) = firstFault (lineFault i w l) (linesFault (suc i) w ls)
 
 -- how many cells the first line has, 0 where there is none
 abbrev pub widthOf : List (List ℕ) → ℕ
@@ -51,8 +55,8 @@ listOf [] = []
 listOf (l ∷ ls) = valuesOf (cellsOf l) ++ listOf ls
 
 -- the list of rules: half as many fields as cells
-abbrev pub rulesOf : List (List ℕ) → Rules
-rulesOf ls = listed record { d = widthOf ls / 2 } (listOf ls)
+abbrev pub rulesFrom : List (List ℕ) → Rules
+rulesFrom ls = listed record { d = widthOf ls / 2 } (listOf ls)
 
 -- the fault of a whole rules file, by its lines: the first of its lines, or 1 where there is none, and then what the list's
 -- check finds, which is 4
@@ -61,4 +65,4 @@ linesRead [] = numberOf BadFields
 linesRead (l ∷ ls) = linesFault 0 (widthOf (l ∷ ls)) (l ∷ ls)
 
 abbrev pub rulesFault : List (List ℕ) → ℕ
-rulesFault ls = firstOf (linesRead ls) (listFault (rulesOf ls) .number)
+rulesFault ls = firstFault (linesRead ls) (listFault (rulesFrom ls) .number)

@@ -1,10 +1,10 @@
 -- What the functions that call the system leave.
 -- Assumes nothing: these are definitions.
 use Prim.Native.Nat.{ℕ, _+_, _≤_}
-use Rattle.gateway.specs.declared.serve.Room.{Room}
-use Rattle.gateway.specs.declared.serve.Room.the-variants.{At, Failed}
-use Rattle.gateway.specs.declared.serve.Got.{Got}
-use Rattle.gateway.specs.declared.serve.Got.the-variants.{Bytes, End, Failed as Broken}
+use Rattle.gateway.specs.declared.output.Room.{Room}
+use Rattle.gateway.specs.declared.output.Room.the-variants.{At, Failed}
+use Rattle.gateway.specs.declared.input.Got.{Got}
+use Rattle.gateway.specs.declared.input.Got.the-variants.{Bytes, End, Failed as Broken}
 
 -- at the place there is room for a line, in a run of n bytes
 abbrev pub Roomy : Room → ℕ → Type 0

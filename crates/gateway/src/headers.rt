@@ -1,10 +1,7 @@
 // The headers file, as far as its bytes have come: each number that stands goes to its place in the lent header of eight
 // numbers, and a line that has ended is answered.
-use crate::say::put_looked;
-use crate::say::put_refused;
+use crate::answer::put_row;
 use lists::shape::Shape;
-use lookup::lookup::lookup;
-use ranges::refusal::BAD_LINE;
 use text::row::Row;
 use text::row::row_byte;
 use text::row::row_next;
@@ -17,10 +14,9 @@ ghost use lib.ListN.{length, take, replicate};
 ghost use Rattle.lists.specs.Rules.{listed};
 ghost use Rattle.text.specs.Cells.{fed};
 ghost use Rattle.text.specs.Rows.{fresh};
-ghost use Rattle.text.specs.Puts.{Put};
-ghost use Rattle.gateway.specs.Files.{plain, step, endOf, finish};
-ghost use Rattle.gateway.specs.HeaderLines.{eightOf, rowSaid};
-ghost use Rattle.gateway.specs.HeaderBytes.{headersAt, headersHeld, headerState, noHeaders, headersByte, headersClose, headersBegun, Wrote, PrintedAt, PrintedFile, Taken};
+ghost use Rattle.gateway.specs.Files.{plain, step, lastLine, finish};
+ghost use Rattle.gateway.specs.HeaderBytes.{headersNow, headersInFile, headerState, noHeaders, headersByte, headersClose, headersBegun};
+ghost use Rattle.gateway.specs.Printing.{Wrote, PrintedNow, PrintedFile, Taken};
 
 // What has been read of the headers: the present line, with whether a byte of it has come.
 pub struct Headers {
@@ -43,25 +39,6 @@ pub fn headers_start() -> HeadersFile
     HeadersFile { cr: false, headers }
 }
 
-// Gives a header's eight numbers by value, and zeros where there are fewer.
-fn eight(header: &[u32]) -> [u32; 8]
-    ensures { λ r. ⌜ r ≡ eightOf (now (header .entry)) ⌝ }
-{
-    if header.len() < 8 {
-        return [0, 0, 0, 0, 0, 0, 0, 0];
-    }
-    [
-        header[0],
-        header[1],
-        header[2],
-        header[3],
-        header[4],
-        header[5],
-        header[6],
-        header[7],
-    ]
-}
-
 // Sets every number of a header to 0.
 fn clear(header: &mut [u32])
     ensures { λ _. ⌜ now (header .exit) ≡ replicate (length (now (header .entry))) 0 ⌝ }
@@ -73,36 +50,9 @@ fn clear(header: &mut [u32])
     }
 }
 
-// Puts the answer to a line whose cells have all ended: of d cells, all numbers, the lookup's, and else refused,8.
-fn put_row(
-    row: Row,
-    shape: Shape,
-    list: &[u32],
-    table: &[u16],
-    header: &[u32],
-    out: &mut [u8],
-    at: usize,
-) -> usize
-    ensures { λ r.
-        ⌜ Put (now (out .entry)) at
-        (rowSaid (listed shape (now (list .entry))) (now (table .entry)) (row .good) (row .cells) (now (header .entry)))
-        (now (out .exit)) r ⌝ }
-    ensures { λ _.
-        ⌜ length (rowSaid (listed shape (now (list .entry))) (now (table .entry)) (row .good) (row .cells) (now (header .entry))) ≤ 64 ⌝ }
-{
-    if !row.good {
-        return put_refused(BAD_LINE, out, at);
-    }
-    if row.cells as usize != shape.d {
-        return put_refused(BAD_LINE, out, at);
-    }
-    let looked = lookup(shape, list, table, eight(header));
-    put_looked(looked, out, at)
-}
-
 // Reads one byte of a line.
 fn headers_byte(headers: Headers, byte: u8, header: &mut [u32]) -> Headers
-    ensures { λ r. ⌜ headersAt r (now (header .exit)) [] ≡ headersByte (headersAt headers (now (header .entry)) []) byte ⌝ }
+    ensures { λ r. ⌜ headersNow r (now (header .exit)) [] ≡ headersByte (headersNow headers (now (header .entry)) []) byte ⌝ }
 {
     let row = headers.row;
     if byte == b',' {
@@ -129,7 +79,7 @@ fn headers_close(
 ) -> usize
     requires { ⌜ at + 64 ≤ length (now out) ⌝ }
     ensures { λ r.
-        ⌜ PrintedAt (headersClose (listed shape (now (list .entry))) (now (table .entry)) (headersAt headers (now (header .entry)) []))
+        ⌜ PrintedNow (headersClose (listed shape (now (list .entry))) (now (table .entry)) (headersNow headers (now (header .entry)) []))
         (headerState false fresh) (now (header .exit)) (now (out .entry)) at (now (out .exit)) r ⌝ }
 {
     let last = headers.row;
@@ -141,7 +91,7 @@ fn headers_close(
 
 // Reads one byte of the file where no CR waits.
 fn headers_plain(headers: Headers, byte: u8, header: &mut [u32]) -> HeadersFile
-    ensures { λ r. ⌜ headersHeld r (now (header .exit)) [] ≡ plain headersByte (headersAt headers (now (header .entry)) []) byte ⌝ }
+    ensures { λ r. ⌜ headersInFile r (now (header .exit)) [] ≡ plain headersByte (headersNow headers (now (header .entry)) []) byte ⌝ }
 {
     if byte == b'\r' {
         return HeadersFile { cr: true, headers };
@@ -173,7 +123,7 @@ fn headers_step(
     requires { ⌜ at + 64 ≤ length (now out) ⌝ }
     ensures { λ r.
         ⌜ PrintedFile
-        (step headersByte (headersClose (listed shape (now (list .entry))) (now (table .entry))) (headersHeld file (now (header .entry)) []) byte)
+        (step headersByte (headersClose (listed shape (now (list .entry))) (now (table .entry))) (headersInFile file (now (header .entry)) []) byte)
         (r .file) (now (header .exit)) (now (out .entry)) at (now (out .exit)) (r .at) ⌝ }
 {
     let headers = file.headers;
@@ -215,7 +165,7 @@ pub(crate) fn headers_feed(
     requires { ⌜ at + 64 ≤ length (now out) ⌝ }
     ensures { λ r.
         ⌜ PrintedFile
-        (fed (step headersByte (headersClose (listed shape (now (list .entry))) (now (table .entry)))) (headersHeld file (now (header .entry)) [])
+        (fed (step headersByte (headersClose (listed shape (now (list .entry))) (now (table .entry)))) (headersInFile file (now (header .entry)) [])
         (take (r .used) (now (bytes .entry))))
         (r .file) (now (header .exit)) (now (out .entry)) at (now (out .exit)) (r .at) ⌝ }
     ensures { λ r. ⌜ Taken (r .used) (length (now (bytes .entry))) ⌝ }
@@ -256,7 +206,7 @@ fn headers_last(
     requires { ⌜ at + 64 ≤ length (now out) ⌝ }
     ensures { λ r.
         ⌜ Wrote (now (out .entry)) at
-        (endOf (headersClose (listed shape (now (list .entry))) (now (table .entry))) headersBegun (headersAt headers (now (header .entry)) []) .said)
+        (lastLine (headersClose (listed shape (now (list .entry))) (now (table .entry))) headersBegun (headersNow headers (now (header .entry)) []) .said)
         (now (out .exit)) r ⌝ }
 {
     if !headers.begun {
@@ -279,7 +229,7 @@ pub(crate) fn headers_finish(
     ensures { λ r.
         ⌜ Wrote (now (out .entry)) at
         (finish headersByte (headersClose (listed shape (now (list .entry))) (now (table .entry))) headersBegun
-        (headersHeld file (now (header .entry)) []) .said)
+        (headersInFile file (now (header .entry)) []) .said)
         (now (out .exit)) r ⌝ }
 {
     let headers = file.headers;

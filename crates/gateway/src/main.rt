@@ -7,14 +7,20 @@
 //
 // A file is read in pieces, cut anywhere, through a state held by value (`rules`, `headers`): nothing of a file is kept but
 // the list, of at most 16,384 numbers, and that state. The list is checked and its table is built once (`ready`), then
-// each header line is one lookup. Lines are put into a run of bytes (`say`) and written when it is full.
+// each header line is one lookup (`answer`). Lines are put into a run of bytes (`say`) and written when it is full.
 //
-// What is proved. Each function below `serve` meets its contract on slices; `proofs/Theorems.antt` puts them together: what
-// is printed is `programOf` of the two files' bytes, however they are cut into pieces. Only the calls of the system in
-// `serve` and here are tested alone.
+// What is proved. Each function of the files named so far meets its contract on slices; `proofs/Theorems.antt` puts them
+// together: what is printed is `programOf` of the two files' bytes, however they are cut into pieces. What opens, reads and
+// writes files (`input`, `output`, `rules_in`, `headers_in`, `serve` and this one) is proved to be safe and to end; that it
+// hands on the bytes read and writes the bytes put is tested.
+mod answer;
 mod headers;
+mod headers_in;
+mod input;
+mod output;
 mod ready;
 mod rules;
+mod rules_in;
 mod say;
 mod serve;
 

@@ -10,9 +10,9 @@ use text::row::row_start;
 ghost use mathlib.Core.Path.{_≡_};
 ghost use Prim.Native.Nat.{_*_, _<_};
 ghost use Rattle.text.specs.Cells.{fed};
-ghost use Rattle.gateway.specs.Files.{plain, step, endOf, finish};
+ghost use Rattle.gateway.specs.Files.{plain, step, lastLine, finish};
 ghost use Rattle.gateway.specs.RuleLines.{cellsFault};
-ghost use Rattle.gateway.specs.RuleBytes.{rulesAt, rulesHeld, noRules, faultedBy, withRow, judgedBy, rulesByte, rulesClose, rulesBegun};
+ghost use Rattle.gateway.specs.RuleBytes.{rulesNow, rulesInFile, noRules, faultedBy, withRow, judgedBy, rulesByte, rulesClose, rulesBegun};
 
 // What has been read of the rules: the present line, with whether a byte of it has come; how many lines have ended; how
 // many cells the first of them had; and the number of the first fault, 0 while there is none.
@@ -121,7 +121,7 @@ fn judged(rules: Rules, row: Row) -> Rules
 
 // Reads one byte of a line.
 fn rules_byte(rules: Rules, byte: u8, list: &mut [u32]) -> Rules
-    ensures { λ r. ⌜ rulesAt r (now (list .exit)) ≡ rulesByte (rulesAt rules (now (list .entry))) byte ⌝ }
+    ensures { λ r. ⌜ rulesNow r (now (list .exit)) ≡ rulesByte (rulesNow rules (now (list .entry))) byte ⌝ }
 {
     if rules.fault != 0 {
         return rules;
@@ -139,7 +139,7 @@ fn rules_byte(rules: Rules, byte: u8, list: &mut [u32]) -> Rules
 
 // Ends a line.
 fn rules_close(rules: Rules, list: &mut [u32]) -> Rules
-    ensures { λ r. ⌜ rulesAt r (now (list .exit)) ≡ rulesClose (rulesAt rules (now (list .entry))) ⌝ }
+    ensures { λ r. ⌜ rulesNow r (now (list .exit)) ≡ rulesClose (rulesNow rules (now (list .entry))) ⌝ }
 {
     if rules.fault != 0 {
         return rules;
@@ -155,7 +155,7 @@ fn rules_close(rules: Rules, list: &mut [u32]) -> Rules
 
 // Reads one byte of the file where no CR waits.
 fn rules_plain(rules: Rules, byte: u8, list: &mut [u32]) -> RulesFile
-    ensures { λ r. ⌜ rulesHeld r (now (list .exit)) ≡ plain rulesByte (rulesAt rules (now (list .entry))) byte ⌝ }
+    ensures { λ r. ⌜ rulesInFile r (now (list .exit)) ≡ plain rulesByte (rulesNow rules (now (list .entry))) byte ⌝ }
 {
     if byte == b'\r' {
         return RulesFile { cr: true, rules };
@@ -168,7 +168,7 @@ fn rules_plain(rules: Rules, byte: u8, list: &mut [u32]) -> RulesFile
 
 // Reads one byte of the file.
 fn rules_step(file: RulesFile, byte: u8, list: &mut [u32]) -> RulesFile
-    ensures { λ r. ⌜ rulesHeld r (now (list .exit)) ≡ step rulesByte rulesClose (rulesHeld file (now (list .entry))) byte ⌝ }
+    ensures { λ r. ⌜ rulesInFile r (now (list .exit)) ≡ step rulesByte rulesClose (rulesInFile file (now (list .entry))) byte ⌝ }
 {
     let rules = file.rules;
     if !file.cr {
@@ -187,7 +187,7 @@ fn rules_step(file: RulesFile, byte: u8, list: &mut [u32]) -> RulesFile
 // Reads a piece of the file, cut anywhere.
 pub fn rules_feed(file: RulesFile, bytes: &[u8], list: &mut [u32]) -> RulesFile
     ensures { λ r.
-        ⌜ rulesHeld r (now (list .exit)) ≡ fed (step rulesByte rulesClose) (rulesHeld file (now (list .entry))) (now (bytes .entry)) ⌝ }
+        ⌜ rulesInFile r (now (list .exit)) ≡ fed (step rulesByte rulesClose) (rulesInFile file (now (list .entry))) (now (bytes .entry)) ⌝ }
 {
     let mut present = file;
     let mut i = 0;
@@ -200,7 +200,7 @@ pub fn rules_feed(file: RulesFile, bytes: &[u8], list: &mut [u32]) -> RulesFile
 
 // Ends the present line at the file's end, where a byte of it has come.
 fn rules_last(rules: Rules, list: &mut [u32]) -> Rules
-    ensures { λ r. ⌜ rulesAt r (now (list .exit)) ≡ endOf rulesClose rulesBegun (rulesAt rules (now (list .entry))) ⌝ }
+    ensures { λ r. ⌜ rulesNow r (now (list .exit)) ≡ lastLine rulesClose rulesBegun (rulesNow rules (now (list .entry))) ⌝ }
 {
     if !rules.begun {
         return rules;
@@ -210,7 +210,7 @@ fn rules_last(rules: Rules, list: &mut [u32]) -> Rules
 
 // Ends the file.
 pub fn rules_finish(file: RulesFile, list: &mut [u32]) -> Rules
-    ensures { λ r. ⌜ rulesAt r (now (list .exit)) ≡ finish rulesByte rulesClose rulesBegun (rulesHeld file (now (list .entry))) ⌝ }
+    ensures { λ r. ⌜ rulesNow r (now (list .exit)) ≡ finish rulesByte rulesClose rulesBegun (rulesInFile file (now (list .entry))) ⌝ }
 {
     let rules = file.rules;
     if !file.cr {

@@ -2,7 +2,7 @@
 --     more-few, more-many                  one cell more
 --     next-empty, next-number, next-bad    the line after a cell
 --     kept-empty, kept-number, kept-bad    the run then
---     kept-length, kept-long               which keeps its length
+--     kept-length                          which keeps its length
 --     read-ends, read-takes                one byte of a line
 --     row-is                               all bytes of a line: its cells
 -- Assumes nothing.
@@ -15,7 +15,7 @@ use lib.ListN.{length, set, length-set}
 use lib.Dec.{eqb}
 use Rattle.ranges.specs.Numbers.{pick}
 use Rattle.text.specs.Cells.{fed, withByte}
-use Rattle.text.specs.Rows.{oneMore, rowNext, keptAs, keptAt, inFront, cellsIn, Reading, begin, ended, within, readByte, readCell, readCells}
+use Rattle.text.specs.Rows.{oneMore, rowWith, rowNext, keptAs, keptAt, inFront, cellsIn, Reading, begin, ended, within, readByte, readCell, readCells}
 use Rattle.text.proofs.Cells.{cell-is}
 use Rattle.text.specs.declared.cell.Cell.{Cell}
 use Rattle.text.specs.declared.cell.Cell.the-variants.{Empty, Number, Bad}
@@ -63,19 +63,15 @@ kept-length Empty at run = refl
 kept-length (Number v) at run = length-set run at v
 kept-length Bad at run = refl
 
-pub kept-long : (row : Row) (from : ℕ) (run : List ℕ) → length (keptAt row from run) ≡ length run
-unfolding keptAt
-kept-long row from run = kept-length (row .cell) (from + row .cells) run
-
--- ---- one byte of a line
-module _ (by from : ℕ) (s : Reading) (b : ℕ) where
-  pub read-ends : b ≡ by → ended from s ≡ readByte by from s b
+-- ---- one byte of a line, as the code has it
+module _ (by from : ℕ) (s : Reading) {b : ℕ} {row : Row} where
+  pub read-ends : {run : List ℕ} → b ≡ by → row ≡ rowNext (s .row) → run ≡ keptAt (s .row) from (s .run) → record { row = row; run = run } ≡ readByte by from s b
   unfolding readByte
-  read-ends is = rw (eq-eqb b by is)
+  read-ends is next kept = rw (next, kept, eq-eqb b by is)
 
-  pub read-takes : (b ≡ by → ⊥) → within s b ≡ readByte by from s b
+  pub read-takes : (b ≡ by → ⊥) → row ≡ rowWith (s .row) b → record { row = row; run = s .run } ≡ readByte by from s b
   unfolding readByte
-  read-takes other = rw (ne-eqb b by other)
+  read-takes other more = rw (more, ne-eqb b by other)
 
 -- ---- the bytes of a line come to its cells
 -- the present cell takes whole bytes and ends

@@ -1,7 +1,6 @@
 -- `gateway::headers::headers_close` meets its contract: the last cell ends, the answer is put, the header is cleared.
 -- Assumes nothing.
 use borrow.Author.Needs.{needs}
-use Rattle.lists.specs.Rules.{listed}
 use Rattle.gateway.proofs.Printing.{close-printed}
 use Rattle.gateway.proofs.headers.headers_close.Statement.{statement}
 use Rattle.gateway.proofs.headers.headers_close.Tie as tie
@@ -22,7 +21,12 @@ same-length-2 : tie.Need-same-length-2
 same-length-2 c = search needs
 
 returns : tie.Need-returns
-returns c = close-printed (listed (c .before .before .before .before .before .before .before .before .before .before .before .before .before .before .before .before .before .before .args .shape) (c .before .before .before .before .before .before .before .before .before .before .before .before .before .before .before .before .before .before .args .list .now)) (c .before .before .before .before .before .before .before .before .before .before .before .before .before .before .before .before .before .before .args .table .now) (c .before .before .before .before .before .before .before .before .before .before .before .before .before .before .before .before .before .before .args .headers) (c .before .before .before .before .before .before .before .before .before .before .before .before .before .before .before .before .before .before .args .header .now) (c .before .before .before .before .before .before .before .before .before .before .before .row-next .ensures .0) (c .before .before .before .before .before .before .before .before .before .before .before .row-next .ensures .1) (c .before .before .clear .ensures) (c .before .before .before .before .before .before .put-row .ensures .0) (c .before .before .before .before .before .before .put-row .ensures .1) (c .before .before .before .before .before .before .before .before .before .before .before .before .before .before .before .before .before .before .pre)
+returns c =
+    let last = c .before .before in
+    let put = last .before .before .before .before in
+    let next = put .before .before .before .before .before in
+    let entry = next .before .before .before .before .before .before .before in
+    close-printed _ _ _ _ (next .row-next .ensures .0) (next .row-next .ensures .1) (last .clear .ensures) (put .put-row .ensures .0) (put .put-row .ensures .1) (entry .pre)
 
 pub headers-close-spec : {M : Type 1} → statement M
 headers-close-spec =

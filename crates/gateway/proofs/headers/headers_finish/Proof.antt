@@ -1,12 +1,10 @@
 -- `gateway::headers::headers_finish` meets its contract: a CR that waits is a byte of the last line.
 -- Assumes nothing.
 use borrow.Author.Needs.{needs}
-use mathlib.Core.Path.{sym, ap, _∙_}
 use borrow.Author.Tests.{not-true, not-false}
 use mathlib.Core.List.{[]}
 use Rattle.lists.specs.Rules.{listed}
-use Rattle.gateway.specs.HeaderBytes.{headersHeld, headersByte, headersClose, headersBegun}
-use Rattle.gateway.specs.Files.{endOf}
+use Rattle.gateway.specs.HeaderBytes.{headersInFile, headersByte, headersClose, headersBegun}
 use Rattle.gateway.proofs.Files.{finish-plain, finish-lone}
 use Rattle.gateway.proofs.headers.headers_finish.Statement.{statement}
 use Rattle.gateway.proofs.headers.headers_finish.Tie as tie
@@ -22,7 +20,13 @@ same-length-2 c = search needs
 
 -- no CR waits
 returns : tie.Need-returns
-returns c = rw (finish-plain headersByte (headersClose (listed (c .before .before .before .before .before .before .before .before .before .before .before .before .before .before .args .shape) (c .before .before .before .before .before .before .before .before .before .before .before .before .before .before .args .list .now)) (c .before .before .before .before .before .before .before .before .before .before .before .before .before .before .args .table .now)) headersBegun (headersHeld (c .before .before .before .before .before .before .before .before .before .before .before .before .before .before .args .file) (c .before .before .before .before .before .before .before .before .before .before .before .before .before .before .args .header .now) []) (not-true (c .before .before .before .before .before .before .before .before .before .before .before .before .before .before .args .file .cr) (c .before .before .before .before .before .before .before .if1 .taken))) (c .before .before .before .before .headers-last .ensures)
+returns c =
+    let last = c .before .before .before .before in
+    let test = last .before .before .before in
+    let entry = test .before .before .before .before .before .before .before in
+    let a = entry .args in
+    let close = headersClose (listed (a .shape) (a .list .now)) (a .table .now) in
+    rw (finish-plain close headersBegun headersByte (headersInFile (a .file) (a .header .now) []) (not-true _ (test .if1 .taken))) (last .headers-last .ensures)
 
 headers-byte-requires : tie.Need-headers-byte-requires
 headers-byte-requires c κs = search needs
@@ -38,7 +42,15 @@ same-length-4 c = search needs
 
 -- a CR waits
 returns-2 : tie.Need-returns-2
-returns-2 c = rw (finish-lone headersByte (headersClose (listed (c .before .before .before .before .before .before .before .before .before .before .before .before .before .before .before .before .before .before .args .shape) (c .before .before .before .before .before .before .before .before .before .before .before .before .before .before .before .before .before .before .args .list .now)) (c .before .before .before .before .before .before .before .before .before .before .before .before .before .before .before .before .before .before .args .table .now)) headersBegun (headersHeld (c .before .before .before .before .before .before .before .before .before .before .before .before .before .before .before .before .before .before .args .file) (c .before .before .before .before .before .before .before .before .before .before .before .before .before .before .before .before .before .before .args .header .now) []) (not-false (c .before .before .before .before .before .before .before .before .before .before .before .before .before .before .before .before .before .before .args .file .cr) (c .before .before .before .before .before .before .before .before .before .before .before .if1 .left)), ← c .before .before .before .before .before .before .before .before .before .headers-byte .ensures) (c .before .before .before .before .headers-last2 .ensures)
+returns-2 c =
+    let last = c .before .before .before .before in
+    let lone = last .before .before .before .before .before in
+    let test = lone .before .before in
+    let entry = test .before .before .before .before .before .before .before in
+    let a = entry .args in
+    let close = headersClose (listed (a .shape) (a .list .now)) (a .table .now) in
+    rw (finish-lone close headersBegun headersByte (headersInFile (a .file) (a .header .now) []) (not-false _ (test .if1 .left)) (lone .headers-byte .ensures))
+    (last .headers-last2 .ensures)
 
 pub headers-finish-spec : {M : Type 1} → statement M
 headers-finish-spec =

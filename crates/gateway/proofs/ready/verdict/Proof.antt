@@ -1,29 +1,26 @@
 -- `gateway::ready::verdict` meets its contract: each way out is the law of its case.
 -- Assumes nothing.
 use borrow.Author.Needs.{needs}
-use mathlib.Core.Path.{_≡_, sym, ap, _∙_}
+use mathlib.Core.Path.{sym, ap, _∙_}
 use lib.Seq.{length-take-le}
-use lib.ListN.{take}
-use Rattle.lists.specs.Rules.{listed}
-use Rattle.lists.specs.Faults.{listFault}
 use Rattle.gateway.proofs.Readying.{verdict-fault, verdict-none, verdict-short, verdict-list}
 use Rattle.gateway.proofs.ready.verdict.Statement.{statement}
 use Rattle.gateway.proofs.ready.verdict.Tie as tie
 
 -- a fault of the lines
 returns : tie.Need-returns
-returns c = sym (verdict-fault (c .before .before .before .args .rules) (c .before .before .before .args .list .now) (c .if1 .taken))
+returns c = sym (verdict-fault _ _ (c .if1 .taken))
 
 -- no line
 returns-2 : tie.Need-returns-2
-returns-2 c = sym (verdict-none (c .before .before .before .before .before .args .rules) (c .before .before .before .before .before .args .list .now) (c .before .before .if1 .left) (c .if2 .taken))
+returns-2 c = sym (verdict-none _ _ (c .before .before .if1 .left) (c .if2 .taken))
 
 numbers-in-requires : tie.Need-numbers-in-requires
 numbers-in-requires c κs = search needs
 
 -- never
 returns-3 : tie.Need-returns-3
-returns-3 c = sym (verdict-short (c .before .before .before .before .before .before .before .args .rules) (c .before .before .before .before .before .before .before .args .list .now) (c .before .before .before .before .if1 .left) (c .before .before .if2 .left) (rw (c .before .numbers-in .ensures) at (c .if3 .taken)))
+returns-3 c = sym (verdict-short _ _ (c .before .before .before .before .if1 .left) (c .before .before .if2 .left) (rw (c .before .numbers-in .ensures) at (c .if3 .taken)))
 
 shape-of-requires : tie.Need-shape-of-requires
 shape-of-requires c κs = search needs
@@ -37,9 +34,12 @@ list-fault-requires c κs = search needs
 -- the check of the list
 returns-4 : tie.Need-returns-4
 returns-4 c =
-    let l = c .before .before .before .before .before .before .before .before .before .before .args .list .now in
+    let shape = c .before .before in
+    let count = shape .before .before in
+    let test = count .before .before .before in
     ap (λ x. x .number) (c .list-fault .ensures)
-    ∙ rw (c .before .before .shape-of .ensures, c .before .before .before .before .numbers-in .ensures) (sym (verdict-list (c .before .before .before .before .before .before .before .before .before .before .args .rules) (c .before .before .before .before .before .before .before .before .before .before .args .list .now) (c .before .before .before .before .before .before .before .if1 .left) (c .before .before .before .before .before .if2 .left) (rw (c .before .before .before .before .numbers-in .ensures) at (c .before .before .before .if3 .left))))
+    ∙ rw (shape .shape-of .ensures, count .numbers-in .ensures)
+    (sym (verdict-list _ _ (test .if1 .left) (count .before .if2 .left) (rw (count .numbers-in .ensures) at (shape .before .if3 .left))))
 
 pub verdict-spec : {M : Type 1} → statement M
 verdict-spec =

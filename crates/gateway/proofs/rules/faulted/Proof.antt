@@ -1,8 +1,6 @@
 -- `gateway::rules::faulted` meets its contract.
 -- Assumes nothing.
 use borrow.Author.Needs.{needs}
-use mathlib.Core.Bool.{false}
-use Rattle.gateway.specs.RuleBytes.{ruleState}
 use Rattle.gateway.proofs.rules.faulted.Statement.{statement}
 use Rattle.gateway.proofs.rules.faulted.Tie as tie
 

@@ -1,7 +1,7 @@
 -- `gateway::rules::rules_feed` meets its contract. At the loop's head the first i bytes are read; the measure is what is left.
 -- Assumes nothing.
 use borrow.Author.Needs.{needs}
-use Prim.Native.Nat.{ℕ, _≤_, _-_}
+use Prim.Native.Nat.{_≤_, _-_}
 use mathlib.Core.Path.{_≡_, refl, sym, ap, _∙_}
 use native.Mathlib.Omega.{arith}
 use lib.ListN.{length, getD, take}
@@ -9,7 +9,7 @@ use lib.Seq.{take-all}
 use Rattle.text.specs.Cells.{fed}
 use Rattle.text.proofs.Feeding.{fed-more}
 use Rattle.gateway.specs.Files.{step}
-use Rattle.gateway.specs.RuleBytes.{rulesHeld, rulesByte, rulesClose}
+use Rattle.gateway.specs.RuleBytes.{rulesInFile, rulesByte, rulesClose}
 use Rattle.gateway.proofs.rules.rules_feed.Statement.{statement}
 use Rattle.gateway.proofs.rules.rules_feed.Tie as tie
 
@@ -17,7 +17,7 @@ abbrev Inv-loop : tie.InvT-loop
 Inv-loop bytes list₀ present₀ i₀ list present i =
     (i ≤ length bytes)
     × (length list ≡ length list₀)
-    × (rulesHeld present list ≡ fed (step rulesByte rulesClose) (rulesHeld present₀ list₀) (take i bytes))
+    × (rulesInFile present list ≡ fed (step rulesByte rulesClose) (rulesInFile present₀ list₀) (take i bytes))
 
 abbrev μ-loop : tie.MeasureT-loop
 μ-loop bytes list₀ present₀ i₀ list present i = length bytes - i
@@ -45,7 +45,7 @@ loop-again c =
       c .before .before .rules-step .kept .1 .1 .0 ∙ s .inv .1,
       c .before .before .rules-step .ensures
           ∙ ap (λ h. step rulesByte rulesClose h (getD (a .bytes .now) (s .i) 0)) (s .inv .2)
-          ∙ sym (fed-more (step rulesByte rulesClose) (rulesHeld (a .file) (a .list .now)) (a .bytes .now) (s .i) (omega arith)),
+          ∙ sym (fed-more (step rulesByte rulesClose) (rulesInFile (a .file) (a .list .now)) (a .bytes .now) (s .i) (omega arith)),
     )
 
 same-length : tie.Need-same-length Inv-loop μ-loop

@@ -1,11 +1,8 @@
 -- `gateway::rules::rules_step` meets its contract: where a CR waits, LF ends the line, and any other byte makes it a byte of the line.
 -- Assumes nothing.
 use borrow.Author.Needs.{needs}
-use mathlib.Core.Path.{sym, ap, _∙_}
-use mathlib.Core.Bool.{false}
+use mathlib.Core.Path.{sym, _∙_}
 use borrow.Author.Tests.{not-true, not-false}
-use Rattle.gateway.specs.RuleBytes.{rulesHeld, rulesByte, rulesClose}
-use Rattle.gateway.specs.Files.{held, plain}
 use Rattle.gateway.proofs.Files.{step-plain, step-ends, step-lone}
 use Rattle.gateway.proofs.rules.rules_step.Statement.{statement}
 use Rattle.gateway.proofs.rules.rules_step.Tie as tie
@@ -18,7 +15,9 @@ same-length c = search needs
 
 -- no CR waits
 returns : tie.Need-returns
-returns c = c .before .before .rules-plain .ensures ∙ sym (step-plain rulesByte rulesClose (rulesHeld (c .before .before .before .before .before .before .before .before .args .file) (c .before .before .before .before .before .before .before .before .args .list .now)) (c .before .before .before .before .before .before .before .before .args .byte) (not-true (c .before .before .before .before .before .before .before .before .args .file .cr) (c .before .before .before .before .if1 .taken)))
+returns c =
+    let read = c .before .before in
+    read .rules-plain .ensures ∙ sym (step-plain _ _ _ _ (not-true _ (read .before .before .if1 .taken)))
 
 rules-close-requires : tie.Need-rules-close-requires
 rules-close-requires c κs = search needs
@@ -28,7 +27,10 @@ same-length-2 c = search needs
 
 -- CRLF
 returns-2 : tie.Need-returns-2
-returns-2 c = ap (held false) (c .before .before .rules-close .ensures) ∙ sym (step-ends rulesByte rulesClose (rulesHeld (c .before .before .before .before .before .before .before .before .before .args .file) (c .before .before .before .before .before .before .before .before .before .args .list .now)) (c .before .before .before .before .before .before .before .before .before .args .byte) (not-false (c .before .before .before .before .before .before .before .before .before .args .file .cr) (c .before .before .before .before .before .if1 .left)) (c .before .before .before .before .if2 .taken))
+returns-2 c =
+    let close = c .before .before in
+    let test = close .before .before in
+    sym (step-ends _ _ _ _ (not-false _ (test .before .if1 .left)) (test .if2 .taken) (close .rules-close .ensures))
 
 rules-byte-requires : tie.Need-rules-byte-requires
 rules-byte-requires c κs = search needs
@@ -41,7 +43,11 @@ same-length-3 c = search needs
 
 -- a lone CR
 returns-3 : tie.Need-returns-3
-returns-3 c = c .before .before .rules-plain2 .ensures ∙ ap (λ x. plain rulesByte x (c .before .before .before .before .before .before .before .before .before .before .before .before .before .args .byte)) (c .before .before .before .before .before .before .rules-byte .ensures) ∙ sym (step-lone rulesByte rulesClose (rulesHeld (c .before .before .before .before .before .before .before .before .before .before .before .before .before .args .file) (c .before .before .before .before .before .before .before .before .before .before .before .before .before .args .list .now)) (c .before .before .before .before .before .before .before .before .before .before .before .before .before .args .byte) (not-false (c .before .before .before .before .before .before .before .before .before .before .before .before .before .args .file .cr) (c .before .before .before .before .before .before .before .before .before .if1 .left)) (c .before .before .before .before .before .before .before .before .if2 .left))
+returns-3 c =
+    let read = c .before .before in
+    let lone = read .before .before .before .before in
+    let test = lone .before .before in
+    read .rules-plain2 .ensures ∙ sym (step-lone _ _ _ _ (not-false _ (test .before .if1 .left)) (test .if2 .left) (lone .rules-byte .ensures))
 
 pub rules-step-spec : {M : Type 1} → statement M
 rules-step-spec =

@@ -39,14 +39,23 @@ same-length c = search needs
 
 -- a rule
 returns : tie.Need-returns
-returns c = rw (c .before .before .before .before .before .before .before .before .before .looked .given .1) (put-then (c .before .before .before .before .before .before .put-number .ensures) (c .before .before .put-tests .ensures .0), rule-short (c .before .before .before .before .before .before .before .before .before .looked .given .0 .0) (c .before .before .before .before .before .before .before .before .before .looked .given .0 .1 .0) (omega arith) (c .before .before .put-tests .ensures .1))
+returns c =
+    let tests = c .before .before in
+    let number = tests .before .before .before .before in
+    let arm = number .before .before .before in
+    rw (arm .looked .given .1)
+    (put-then (number .put-number .ensures) (tests .put-tests .ensures .0), rule-short _ _ (omega arith) (tests .put-tests .ensures .1))
 
 same-length-2 : tie.Need-same-length-2
 same-length-2 c = search needs
 
 -- none
 returns-2 : tie.Need-returns-2
-returns-2 c = rw (c .before .before .before .before .before .before .before .before .before .before .looked2 .given .1) (put-then (c .before .before .before .before .before .before .put-text .ensures) (c .before .before .put-tests2 .ensures .0), none-short (c .before .before .before .before .before .before .before .before .before .before .looked2 .given .0 .0) (c .before .before .put-tests2 .ensures .1))
+returns-2 c =
+    let tests = c .before .before in
+    let word = tests .before .before .before .before in
+    let arm = word .before .before .before .before in
+    rw (arm .looked2 .given .1) (put-then (word .put-text .ensures) (tests .put-tests2 .ensures .0), none-short _ (tests .put-tests2 .ensures .1))
 
 same-length-3 : tie.Need-same-length-3
 same-length-3 c = search needs

@@ -26,7 +26,11 @@ same-length : tie.Need-same-length
 same-length c = search needs
 
 returns : tie.Need-returns
-returns c = (put-then (put-then (c .before .before .before .before .before .before .before .before .before .before .before .put-text .ensures) (c .before .before .before .before .before .before .before .put-number .ensures)) (c .before .before .put-text2 .ensures), refused-short (c .before .before .before .before .before .before .before .before .before .before .before .before .before .before .before .args .number) (omega arith))
+returns c =
+    let end = c .before .before in
+    let number = end .before .before .before .before .before in
+    let word = number .before .before .before .before in
+    (put-then (put-then (word .put-text .ensures) (number .put-number .ensures)) (end .put-text2 .ensures), refused-short _ (omega arith))
 
 pub put-refused-spec : {M : Type 1} → statement M
 put-refused-spec =

@@ -23,7 +23,11 @@ same-length : tie.Need-same-length
 same-length c = search needs
 
 returns : tie.Need-returns
-returns c = (put-then (put-then (c .before .before .before .before .before .before .before .before .before .before .before .put-byte .ensures) (c .before .before .before .before .before .before .before .put-number .ensures)) (c .before .before .put-text .ensures), tests-short (c .before .before .before .before .before .before .before .before .before .before .before .before .before .before .args .tests) (omega arith))
+returns c =
+    let end = c .before .before in
+    let number = end .before .before .before .before .before in
+    let comma = number .before .before .before .before in
+    (put-then (put-then (comma .put-byte .ensures) (number .put-number .ensures)) (end .put-text .ensures), tests-short _ (omega arith))
 
 pub put-tests-spec : {M : Type 1} → statement M
 put-tests-spec =

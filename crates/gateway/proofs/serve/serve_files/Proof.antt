@@ -1,7 +1,7 @@
 -- `gateway::serve::serve_files` is safe and ends: rules that stand have their numbers in the list, and a table that fits.
 -- Assumes nothing.
 use borrow.Author.Needs.{needs}
-use mathlib.Core.Path.{_≡_, refl, sym, ap, _∙_}
+use mathlib.Core.Path.{sym}
 use lib.Seq.{length-take-le}
 use Rattle.gateway.proofs.Readying.{stands-within, stands-fine}
 use Rattle.gateway.proofs.serve.serve_files.Statement.{statement}
@@ -56,16 +56,28 @@ slice-reshare-prefix-make-table : tie.Need-slice-reshare-prefix-make-table
 slice-reshare-prefix-make-table c = stands-within _ _ (c .before .before .before .verdict .ensures) (c .before .before .if1 .left) (c .numbers-in .ensures)
 
 slice-aggregate-make-table : tie.Need-slice-aggregate-make-table
-slice-aggregate-make-table c = sym (length-take-le _ _ (stands-within _ _ (c .before .before .before .before .verdict .ensures) (c .before .before .before .if1 .left) (c .before .numbers-in .ensures)))
+slice-aggregate-make-table c =
+    let count = c .before in
+    sym (length-take-le _ _ (stands-within _ _ (count .before .before .before .verdict .ensures) (count .before .before .if1 .left) (count .numbers-in .ensures)))
 
 make-table-requires : tie.Need-make-table-requires
-make-table-requires c κs = (stands-fine _ _ (c .before .before .before .before .before .verdict .ensures) (c .before .before .before .before .if1 .left) (c .before .before .numbers-in .ensures) (c .before .before .before .shape-of .ensures), c .before .before .before .before .before .before .before .before .before .before .before .before .before .before .before .before .before .before .before .before .before .before .before .before .pre)
+make-table-requires c κs =
+    let count = c .before .before in
+    let test = count .before .before in
+    let entry = test .before .before .before .before .before .before .before .before .before .before .before .before .before .before .before .before .before .before .before .before in
+    (stands-fine _ _ (test .before .verdict .ensures) (test .if1 .left) (count .numbers-in .ensures) (count .before .shape-of .ensures), entry .pre)
 
 slice-reshare-prefix-answer-all : tie.Need-slice-reshare-prefix-answer-all
-slice-reshare-prefix-answer-all c = stands-within _ _ (c .before .before .before .before .before .before .before .before .verdict .ensures) (c .before .before .before .before .before .before .before .if1 .left) (c .before .before .before .before .before .numbers-in .ensures)
+slice-reshare-prefix-answer-all c =
+    let count = c .before .before .before .before .before in
+    let test = count .before .before in
+    stands-within _ _ (test .before .verdict .ensures) (test .if1 .left) (count .numbers-in .ensures)
 
 slice-aggregate-answer-all : tie.Need-slice-aggregate-answer-all
-slice-aggregate-answer-all c = sym (length-take-le _ _ (stands-within _ _ (c .before .before .before .before .before .before .before .before .before .verdict .ensures) (c .before .before .before .before .before .before .before .before .if1 .left) (c .before .before .before .before .before .before .numbers-in .ensures)))
+slice-aggregate-answer-all c =
+    let count = c .before .before .before .before .before .before in
+    let test = count .before .before in
+    sym (length-take-le _ _ (stands-within _ _ (test .before .verdict .ensures) (test .if1 .left) (count .numbers-in .ensures)))
 
 slice-reshare-prefix-answer-all-2 : tie.Need-slice-reshare-prefix-answer-all-2
 slice-reshare-prefix-answer-all-2 c = search needs

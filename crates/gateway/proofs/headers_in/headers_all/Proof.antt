@@ -1,10 +1,10 @@
--- `gateway::serve::headers_all` is safe and ends: the measure is the turns that are left. The runs keep their lengths.
+-- `gateway::headers_in::headers_all` is safe and ends: the measure is the turns that are left. The runs keep their lengths.
 -- Assumes nothing.
 use borrow.Author.Needs.{needs}
-use mathlib.Core.Path.{_≡_, refl, sym, ap, _∙_}
+use mathlib.Core.Path.{_≡_, refl, _∙_}
 use lib.ListN.{length}
-use Rattle.gateway.proofs.serve.headers_all.Statement.{statement}
-use Rattle.gateway.proofs.serve.headers_all.Tie as tie
+use Rattle.gateway.proofs.headers_in.headers_all.Statement.{statement}
+use Rattle.gateway.proofs.headers_in.headers_all.Tie as tie
 
 abbrev Inv-loop : tie.InvT-loop
 Inv-loop fd path bytes₀ shape list table header₀ out₀ at file₀ place₀ turns₀ bytes header out file place turns = (length bytes ≡ length bytes₀) × (length header ≡ length header₀) × (length out ≡ length out₀)
@@ -25,13 +25,22 @@ enum-known-turn : tie.Need-enum-known-turn Inv-loop μ-loop
 enum-known-turn c = search needs
 
 same-length : tie.Need-same-length Inv-loop μ-loop
-same-length c = c .before .before .before .before .before .before .before .headers-some .kept .1 .1 .1 .0 ∙ c .before .before .before .before .before .before .before .before .before .before .before .before .loop .inv .0
+same-length c =
+    let turn = c .before .before .before .before .before .before .before in
+    let head = turn .before .before .before .before .before in
+    turn .headers-some .kept .1 .1 .1 .0 ∙ head .loop .inv .0
 
 same-length-2 : tie.Need-same-length-2 Inv-loop μ-loop
-same-length-2 c = c .before .before .before .before .before .before .before .headers-some .kept .1 .1 .1 .1 .1 .1 .1 .0 ∙ c .before .before .before .before .before .before .before .before .before .before .before .before .loop .inv .1
+same-length-2 c =
+    let turn = c .before .before .before .before .before .before .before in
+    let head = turn .before .before .before .before .before in
+    turn .headers-some .kept .1 .1 .1 .1 .1 .1 .1 .0 ∙ head .loop .inv .1
 
 same-length-3 : tie.Need-same-length-3 Inv-loop μ-loop
-same-length-3 c = c .before .before .before .before .before .before .before .headers-some .kept .1 .1 .1 .1 .1 .1 .1 .1 .0 ∙ c .before .before .before .before .before .before .before .before .before .before .before .before .loop .inv .2
+same-length-3 c =
+    let turn = c .before .before .before .before .before .before .before in
+    let head = turn .before .before .before .before .before in
+    turn .headers-some .kept .1 .1 .1 .1 .1 .1 .1 .1 .0 ∙ head .loop .inv .2
 
 returns : tie.Need-returns Inv-loop μ-loop
 returns c = search needs
@@ -43,7 +52,11 @@ loop-less : tie.Need-loop-less Inv-loop μ-loop
 loop-less c = search needs
 
 loop-again : tie.Need-loop-again Inv-loop μ-loop
-loop-again c = (c .before .before .before .before .before .before .before .before .before .headers-some .kept .1 .1 .1 .0 ∙ c .before .before .before .before .before .before .before .before .before .before .before .before .before .before .loop .inv .0, c .before .before .before .before .before .before .before .before .before .headers-some .kept .1 .1 .1 .1 .1 .1 .1 .0 ∙ c .before .before .before .before .before .before .before .before .before .before .before .before .before .before .loop .inv .1, c .before .before .before .before .before .before .before .before .before .headers-some .kept .1 .1 .1 .1 .1 .1 .1 .1 .0 ∙ c .before .before .before .before .before .before .before .before .before .before .before .before .before .before .loop .inv .2)
+loop-again c =
+    let turn = c .before .before .before .before .before .before .before .before .before in
+    let head = turn .before .before .before .before .before in
+    let kept = turn .headers-some .kept .1 .1 .1 in
+    (kept .0 ∙ head .loop .inv .0, kept .1 .1 .1 .1 .0 ∙ head .loop .inv .1, kept .1 .1 .1 .1 .1 .0 ∙ head .loop .inv .2)
 
 same-length-4 : tie.Need-same-length-4 Inv-loop μ-loop
 same-length-4 c = c .before .loop .inv .0

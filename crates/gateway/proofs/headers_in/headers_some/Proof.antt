@@ -1,11 +1,11 @@
--- `gateway::serve::headers_some` is safe and ends: what was read lies within the bytes.
+-- `gateway::headers_in::headers_some` is safe and ends: what was read lies within the bytes.
 -- Assumes nothing.
 use borrow.Author.Needs.{needs}
-use mathlib.Core.Path.{_≡_, refl, sym, ap, _∙_}
+use mathlib.Core.Path.{sym}
 use lib.Seq.{length-take-le}
 use Rattle.gateway.proofs.Serving.{readied-bytes}
-use Rattle.gateway.proofs.serve.headers_some.Statement.{statement}
-use Rattle.gateway.proofs.serve.headers_some.Tie as tie
+use Rattle.gateway.proofs.headers_in.headers_some.Statement.{statement}
+use Rattle.gateway.proofs.headers_in.headers_some.Tie as tie
 
 read-some-requires : tie.Need-read-some-requires
 read-some-requires c κs = search needs

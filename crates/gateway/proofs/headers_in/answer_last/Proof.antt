@@ -1,9 +1,9 @@
--- `gateway::serve::answer_last` is safe and ends: there is room for the last line.
+-- `gateway::headers_in::answer_last` is safe and ends: there is room for the last line.
 -- Assumes nothing.
 use borrow.Author.Needs.{needs}
 use Rattle.gateway.proofs.Serving.{roomy-at}
-use Rattle.gateway.proofs.serve.answer_last.Statement.{statement}
-use Rattle.gateway.proofs.serve.answer_last.Tie as tie
+use Rattle.gateway.proofs.headers_in.answer_last.Statement.{statement}
+use Rattle.gateway.proofs.headers_in.answer_last.Tie as tie
 
 make-room-requires : tie.Need-make-room-requires
 make-room-requires c κs = search needs

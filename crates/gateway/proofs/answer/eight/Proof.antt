@@ -1,9 +1,9 @@
--- `gateway::headers::eight` meets its contract.
+-- `gateway::answer::eight` meets its contract.
 -- Assumes nothing.
 use borrow.Author.Needs.{needs}
 use Rattle.gateway.proofs.HeaderSteps.{eight-few, eight-all}
-use Rattle.gateway.proofs.headers.eight.Statement.{statement}
-use Rattle.gateway.proofs.headers.eight.Tie as tie
+use Rattle.gateway.proofs.answer.eight.Statement.{statement}
+use Rattle.gateway.proofs.answer.eight.Tie as tie
 
 returns : tie.Need-returns
 returns c = eight-few _ (c .if1 .taken)
@@ -33,7 +33,7 @@ shared-slice-read-t19 : tie.Need-shared-slice-read-t19
 shared-slice-read-t19 c = search needs
 
 returns-2 : tie.Need-returns-2
-returns-2 c = eight-all (c .before .before .before .before .before .before .before .before .before .args .header .now) (c .before .before .before .before .before .before .before .before .if1 .left)
+returns-2 c = eight-all _ (c .before .before .before .before .before .before .before .before .if1 .left)
 
 pub eight-spec : {M : Type 1} → statement M
 eight-spec =

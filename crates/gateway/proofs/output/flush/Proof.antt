@@ -1,10 +1,10 @@
--- `gateway::serve::flush` is safe and ends: the part that is written lies within the run.
+-- `gateway::output::flush` is safe and ends: the part that is written lies within the run.
 -- Assumes nothing.
 use borrow.Author.Needs.{needs}
-use mathlib.Core.Path.{_≡_, refl, sym, ap, _∙_}
+use mathlib.Core.Path.{sym}
 use lib.Seq.{length-take-le}
-use Rattle.gateway.proofs.serve.flush.Statement.{statement}
-use Rattle.gateway.proofs.serve.flush.Tie as tie
+use Rattle.gateway.proofs.output.flush.Statement.{statement}
+use Rattle.gateway.proofs.output.flush.Tie as tie
 
 returns : tie.Need-returns
 returns c = search needs
