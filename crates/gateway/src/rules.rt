@@ -14,6 +14,9 @@ ghost use Rattle.gateway.specs.Files.{plain, step, lastLine, finish};
 ghost use Rattle.gateway.specs.RuleLines.{cellsFault};
 ghost use Rattle.gateway.specs.RuleBytes.{rulesNow, rulesInFile, noRules, faultedBy, withRow, judgedBy, rulesByte, rulesClose, rulesBegun};
 
+// How many lines a rules file may have: one more gives 3, whatever stands on it.
+const MOST_LINES: u16 = 1024;
+
 // What has been read of the rules: the present line, with whether a byte of it has come; how many lines have ended; how
 // many cells the first of them had; and the number of the first fault, 0 while there is none.
 pub struct Rules {
@@ -126,7 +129,7 @@ fn rules_byte(rules: Rules, byte: u8, list: &mut [u32]) -> Rules
     if rules.fault != 0 {
         return rules;
     }
-    if 1024 <= rules.lines {
+    if MOST_LINES <= rules.lines {
         return faulted(rules, TOO_MANY_RULES);
     }
     let row = rules.row;
@@ -144,7 +147,7 @@ fn rules_close(rules: Rules, list: &mut [u32]) -> Rules
     if rules.fault != 0 {
         return rules;
     }
-    if 1024 <= rules.lines {
+    if MOST_LINES <= rules.lines {
         return faulted(rules, TOO_MANY_RULES);
     }
     let last = rules.row;
