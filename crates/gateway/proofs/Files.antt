@@ -1,5 +1,9 @@
 -- A file read byte by byte is read line by line (`specs/Files.antt`), whatever the reader does for a byte of a line and
 -- for a line's end, as long as the file's end after a byte is the line's end, and after a line's end does nothing.
+--     plain-cr, plain-byte, step-plain, step-ends, step-lone     one byte, way by way
+--     last-none, last-some, finish-plain, finish-lone            the file's end, way by way
+--     file-is                                                    a whole file
+--     step-map                                                   a change of state that bytes and line ends do not see
 -- Assumes nothing.
 use Prim.Native.Nat.{ℕ}
 use mathlib.Core.Bool.{Bool, true, false}
@@ -12,7 +16,7 @@ use Rattle.text.specs.Cells.{fed}
 use Rattle.text.specs.Rows.{inFront}
 use Rattle.gateway.specs.Files.{linesOf, InFile, inFile, plain, step, settled, lastLine, finish, overLines}
 
--- ---- the ways of a byte, with what the code has made of it
+-- ---- one byte; y is what the code has made of it
 module _ {X : Type 0} (byte : X → ℕ → X) where
   pub plain-cr : (x : X) (b : ℕ) → b ≡ 13 → plain byte x b ≡ inFile true x
   unfolding plain
@@ -35,7 +39,7 @@ module _ {X : Type 0} (byte : X → ℕ → X) where
     unfolding step
     step-lone waits other read = rw (waits, ne-eqb b 10 other, read)
 
--- ---- the ways of a file's end
+-- ---- the file's end
 module _ {X : Type 0} (close : X → X) (begun : X → Bool) where
   pub last-none : (x : X) → begun x ≡ false → lastLine close begun x ≡ x
   unfolding lastLine
@@ -57,9 +61,9 @@ module _ {X : Type 0} (close : X → X) (begun : X → Bool) where
 -- ---- a whole file
 module _ {X : Type 0} (byte : X → ℕ → X) (close : X → X) (begun : X → Bool)
     (closed : (x : X) → lastLine close begun (close x) ≡ close x) (begins : (x : X) (b : ℕ) → lastLine close begun (byte x b) ≡ close (byte x b)) where
-  onto-over : (x : X) (b : ℕ) (ls : List (List ℕ)) → overLines byte close begun (byte x b) ls ≡ overLines byte close begun x (inFront b ls)
-  onto-over x b [] = begins x b ∙ sym (closed (byte x b))
-  onto-over x b (l ∷ ls) = refl
+  front-over : (x : X) (b : ℕ) (ls : List (List ℕ)) → overLines byte close begun (byte x b) ls ≡ overLines byte close begun x (inFront b ls)
+  front-over x b [] = begins x b ∙ sym (closed (byte x b))
+  front-over x b (l ∷ ls) = refl
 
   -- what is to be shown of the bytes bs
   abbrev Claim : List ℕ → Type 0
@@ -86,8 +90,8 @@ module _ {X : Type 0} (byte : X → ℕ → X) (close : X → X) (begun : X → 
       go true true p q = rw (step-ends byte close (inFile true x) c refl (eqb-true c 10 q) refl) (after (close x))
       go true false p q =
           rw (step-lone byte close (inFile true x) c refl (eqb-false c 10 q) refl, ← step-plain byte close (inFile false (byte x 13)) c refl)
-          (next (byte x 13) ∙ onto-over x 13 (linesOf (c ∷ bs)) ∙ ap (λ k. overLines byte close begun x (inFront k (linesOf (c ∷ bs)))) (sym (eqb-true b 13 p)))
-      go false t p q = next (byte x b) ∙ onto-over x b (linesOf (c ∷ bs))
+          (next (byte x 13) ∙ front-over x 13 (linesOf (c ∷ bs)) ∙ ap (λ k. overLines byte close begun x (inFront k (linesOf (c ∷ bs)))) (sym (eqb-true b 13 p)))
+      go false t p q = next (byte x b) ∙ front-over x b (linesOf (c ∷ bs))
 
   -- a file's bytes, read one by one from a line's start, are its lines read one by one
   pub file-is : (bs : List ℕ) (x : X) → finish byte close begun (fed (step byte close) (inFile false x) bs) ≡ overLines byte close begun x (linesOf bs)

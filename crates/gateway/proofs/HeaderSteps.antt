@@ -1,7 +1,7 @@
 -- Laws of the headers file byte by byte (`specs/HeaderBytes.antt`, `specs/HeaderLines.antt`), way by way.
 --     eight-few, eight-all                    a header's eight numbers
 --     cleared-more                            a header cleared number by number
---     row-bad, row-other, row-looked          what is printed for a line
+--     said-bad, said-other, said-looked       what is printed for a line
 --     headers-byte-reads                      one byte of a line
 -- Assumes nothing.
 use Prim.Native.Nat.{ℕ, _+_, _≤_, _<_}
@@ -51,17 +51,17 @@ cleared-more xs i lt so-far = rw (add-one i, take-suc-set xs i 0 lt, so-far, rep
 
 -- ---- what is printed for a line
 module _ (R : Rules) (T : List ℕ) (good : Bool) (k : ℕ) (header : List ℕ) where
-  pub row-bad : good ≡ false → cellsSaid R T good k header ≡ refusedSaid 8
+  pub said-bad : good ≡ false → cellsSaid R T good k header ≡ refusedSaid 8
   unfolding cellsSaid
-  row-bad e = rw e
+  said-bad e = rw e
 
-  pub row-other : good ≡ true → (k ≡ fieldsOf R → ⊥) → cellsSaid R T good k header ≡ refusedSaid 8
+  pub said-other : good ≡ true → (k ≡ fieldsOf R → ⊥) → cellsSaid R T good k header ≡ refusedSaid 8
   unfolding cellsSaid
-  row-other e other = rw (e, ne-eqb k (fieldsOf R) other)
+  said-other e other = rw (e, ne-eqb k (fieldsOf R) other)
 
-  pub row-looked : good ≡ true → k ≡ fieldsOf R → cellsSaid R T good k header ≡ lookedSaid (lookupOf R T (eightOf header))
+  pub said-looked : good ≡ true → k ≡ fieldsOf R → cellsSaid R T good k header ≡ lookedSaid (lookupOf R T (eightOf header))
   unfolding cellsSaid
-  row-looked e same = rw (e, eq-eqb k (fieldsOf R) same)
+  said-looked e same = rw (e, eq-eqb k (fieldsOf R) same)
 
 -- ---- one byte of a line
 pub headers-byte-reads : (h : Headers) (header said : List ℕ) (b : ℕ) {row : Row} {run : List ℕ}

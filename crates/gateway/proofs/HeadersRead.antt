@@ -3,27 +3,29 @@
 -- the header is what is printed for the cells; and the line's end leaves an empty row and zeros again.
 --     headers-read       what the whole file prints
 -- Assumes nothing.
-use Prim.Native.Nat.{ℕ, zero, suc, _+_, _-_, _≤_}
+use Prim.Native.Nat.{ℕ, zero, suc, _+_, _-_, _≤_, _<_}
 use mathlib.Core.Bool.{Bool, true, false}
 use mathlib.Core.List.{List, [], _∷_, _++_, append-assoc, append-nil}
 use mathlib.Core.Path.{_≡_, refl, sym, ap, _∙_}
 use native.Mathlib.Omega.{arith}
-use borrow.Author.Tests.{eqb-true, eqb-false}
+use borrow.Author.Tests.{eqb-true}
 use lib.Dec.{eqb}
 use lib.ListN.{length, take, drop, replicate}
 use lib.Seq.{sets, sets-eq, take-append-add}
+use Rattle.ranges.specs.Numbers.{pick}
 use Rattle.lists.specs.Rules.{Rules, fieldsOf}
+use Rattle.lookup.specs.Lookup.{lookupOf}
 use Rattle.lookup.specs.Bounds.{zeros}
 use Rattle.text.specs.Cells.{fed}
-use Rattle.text.specs.Rows.{fresh, allNumbers, valuesOf, manyMore, Reading, begin, ended, readByte, readCells}
+use Rattle.text.specs.Rows.{fresh, allNumbers, valuesOf, Reading, begin, ended, readByte, readCells}
 use Rattle.text.proofs.Rows.{row-is}
 use Rattle.text.proofs.Counted.{cells-good, cells-count, cells-run, cells-long, values-length, many-same}
 use Rattle.gateway.specs.Files.{linesOf, step, lastLine, finish, overLines}
 use Rattle.gateway.specs.RuleLines.{cellsOf}
-use Rattle.gateway.specs.HeaderLines.{cellsSaid, headerOf, lineSaid, linesSaid}
+use Rattle.gateway.specs.Said.{refusedSaid, lookedSaid}
+use Rattle.gateway.specs.HeaderLines.{eightOf, cellsSaid, headerOf, lineSaid, linesSaid}
 use Rattle.gateway.specs.HeaderBytes.{HeadersNow, headersNow, headersInFile, headerLine, headerState, noHeaders, headersAnswered, headersByte, headersClose, headersBegun}
 use Rattle.gateway.proofs.Files.{file-is}
-use Rattle.gateway.proofs.HeaderSteps.{row-bad, row-other}
 
 -- ---- a line's bytes and its end, whatever has come of it before
 line-reads : (R : Rules) (T l : List ℕ) (x : HeadersNow) → headersClose R T (fed headersByte x l) ≡ headersAnswered R T (ended 0 (fed (readByte 44 0) (headerLine x) l)) (x .said)
@@ -56,36 +58,33 @@ front ns few =
     ∙ sym (take-append-add ns zeros (8 - length ns))
     ∙ ap (λ j. take j (ns ++ zeros)) eight
 
-module _ (R : Rules) (T : List ℕ) (d : fieldsOf R ≤ 8) where
+module _ (R : Rules) (T : List ℕ) (narrow : fieldsOf R ≤ 8) where
   -- the row and the header of a line's cells, read into zeros
   abbrev cellsRead : List (List ℕ) → Reading
   cellsRead cs = readCells 0 (begin zeros) cs
 
   cells-said : (cs : List (List ℕ))
       → cellsSaid R T (cellsRead cs .row .good) (cellsRead cs .row .cells) (cellsRead cs .run) ≡ cellsSaid R T (allNumbers cs) (length cs) (headerOf cs)
+  unfolding cellsSaid
   cells-said cs =
-      ap (λ g. cellsSaid R T g (cellsRead cs .row .cells) (cellsRead cs .run)) (cells-good 0 (begin zeros) cs)
-      ∙ ap (λ k. cellsSaid R T (allNumbers cs) k (cellsRead cs .run)) (cells-count 0 (begin zeros) cs)
-      ∙ go (allNumbers cs) (eqb (length cs) (fieldsOf R)) refl refl
+      rw (cells-good 0 (begin zeros) cs, cells-count 0 (begin zeros) cs, many-same cs (fieldsOf R) small)
+      (go (allNumbers cs) (eqb (length cs) (fieldsOf R)) refl refl)
     where
-      counted : eqb (manyMore 0 cs) (fieldsOf R) ≡ eqb (length cs) (fieldsOf R)
-      counted = many-same cs (fieldsOf R) (omega arith)
+      small : fieldsOf R < 65535
+      small = omega arith
+
+      run : allNumbers cs ≡ true → length cs ≡ fieldsOf R → cellsRead cs .run ≡ headerOf cs
+      run all is =
+          let few : length cs ≤ 8 = omega arith in
+          let short : length (valuesOf cs) ≤ 8 = omega (arith, values-length cs) in
+          cells-run cs 0 (begin zeros) all (omega arith) ∙ front (valuesOf cs) short
 
       go : (s t : Bool) → allNumbers cs ≡ s → eqb (length cs) (fieldsOf R) ≡ t
-          → cellsSaid R T (allNumbers cs) (manyMore 0 cs) (cellsRead cs .run) ≡ cellsSaid R T (allNumbers cs) (length cs) (headerOf cs)
-      go false t p q =
-          row-bad R T (allNumbers cs) (manyMore 0 cs) (cellsRead cs .run) p ∙ sym (row-bad R T (allNumbers cs) (length cs) (headerOf cs) p)
-      go true false p q =
-          let other : length cs ≡ fieldsOf R → ⊥ = eqb-false (length cs) (fieldsOf R) q in
-          row-other R T (allNumbers cs) (manyMore 0 cs) (cellsRead cs .run) p (eqb-false (manyMore 0 cs) (fieldsOf R) (counted ∙ q))
-          ∙ sym (row-other R T (allNumbers cs) (length cs) (headerOf cs) p other)
-      go true true p q =
-          let is : length cs ≡ fieldsOf R = eqb-true (length cs) (fieldsOf R) q in
-          let few : length cs ≤ 8 = omega arith in
-          let count : manyMore 0 cs ≡ length cs = eqb-true (manyMore 0 cs) (fieldsOf R) (counted ∙ q) ∙ sym is in
-          let short : length (valuesOf cs) ≤ 8 = omega (arith, values-length cs) in
-          let run : cellsRead cs .run ≡ headerOf cs = cells-run cs 0 (begin zeros) p (omega arith) ∙ front (valuesOf cs) short in
-          ap (λ k. cellsSaid R T (allNumbers cs) k (cellsRead cs .run)) count ∙ ap (cellsSaid R T (allNumbers cs) (length cs)) run
+          → pick s (pick t (lookedSaid (lookupOf R T (eightOf (cellsRead cs .run)))) (refusedSaid 8)) (refusedSaid 8)
+          ≡ pick s (pick t (lookedSaid (lookupOf R T (eightOf (headerOf cs)))) (refusedSaid 8)) (refusedSaid 8)
+      go false t p q = refl
+      go true false p q = refl
+      go true true p q = ap (λ h. lookedSaid (lookupOf R T (eightOf h))) (run p (eqb-true (length cs) (fieldsOf R) q))
 
   -- ---- a line, and lines one after the other
   -- at a line's start

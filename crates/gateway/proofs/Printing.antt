@@ -19,6 +19,7 @@ use Rattle.text.specs.declared.row.Row.{Row}
 use Rattle.text.proofs.Feeding.{fed-more}
 use Rattle.text.proofs.Puts.{put-long, put-place, put-fits}
 use Rattle.gateway.specs.Files.{InFile, inFile, step}
+use Rattle.gateway.specs.Said.{PutLine}
 use Rattle.gateway.specs.HeaderLines.{cellsSaid}
 use Rattle.gateway.specs.HeaderBytes.{HeadersNow, headersNow, headersInFile, headerState, noHeaders, headersByte, headersClose}
 use Rattle.gateway.specs.Printing.{Wrote, PrintedNow, PrintedFile}
@@ -50,11 +51,11 @@ module _ {out : List ℕ} {at : ℕ} where
 -- ---- a line's end
 pub close-printed : (R : Rules) (T : List ℕ) (h : Headers) (header : List ℕ) {row : Row} {run cleared out after : List ℕ} {at next : ℕ}
     → row ≡ rowNext (h .row) → run ≡ keptAt (h .row) 0 header → cleared ≡ replicate (length run) 0
-    → Put out at (cellsSaid R T (row .good) (row .cells) run) after next → length (cellsSaid R T (row .good) (row .cells) run) ≤ 64 → at + 64 ≤ length out
+    → PutLine out at (cellsSaid R T (row .good) (row .cells) run) after next → at + 64 ≤ length out
     → PrintedNow (headersClose R T (headersNow h header [])) (headerState false fresh) cleared out at after next
 unfolding headersClose
-close-printed R T h header {row} {run} {cleared} {out} {after} {at} {next} is kept zeroed put short room =
-    let wrote : Wrote out at (cellsSaid R T (row .good) (row .cells) run) after next = put-wrote put (omega arith) in
+close-printed R T h header {row} {run} {cleared} {out} {after} {at} {next} is kept zeroed line room =
+    let wrote : Wrote out at (cellsSaid R T (row .good) (row .cells) run) after next = put-wrote (line .put) (omega (arith, line .short)) in
     record { reads = rw (zeroed, kept); prints = rw (is, kept) at wrote }
 
 -- ---- one byte of the file

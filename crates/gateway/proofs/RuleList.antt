@@ -9,7 +9,6 @@ use mathlib.Core.List.{List, [], _∷_, _++_, append-assoc, append-nil}
 use mathlib.Core.Path.{_≡_, refl, sym, ap, _∙_, subst}
 use native.Mathlib.Omega.{arith}
 use native.Mathlib.Nat.{mul-le-mul}
-use native.Mathlib.Numerals.{add-one}
 use borrow.Author.Tests.{eq-eqb, ne-eqb, eqb-true, eqb-false, le-leb, lt-leb, leb-true, leb-false}
 use lib.Dec.{eqb, leb}
 use lib.ListN.{length, take, drop, length-append}
@@ -54,16 +53,16 @@ come-faulty w i acc l ls r list some is = record { fault = sym is; stood = λ e.
 
 -- a line that stands, before lines that come to something
 come-fine : (w i : ℕ) (acc : List ℕ) (l : List ℕ) (ls : List (List ℕ)) (y : RulesNow) → lineFault i w l ≡ 0
-    → Come w (suc i) (acc ++ valuesOf (cellsOf l)) ls y → Come w i acc (l ∷ ls) y
+    → Come w (i + 1) (acc ++ valuesOf (cellsOf l)) ls y → Come w i acc (l ∷ ls) y
 come-fine w i acc l ls y none rest = record { fault = rest .fault ∙ sym is; stood = λ e. stood (rest .stood (sym is ∙ e)) }
   where
-    is : linesFault i w (l ∷ ls) ≡ linesFault (suc i) w ls
-    is = first-none (lineFault i w l) (linesFault (suc i) w ls) none
+    is : linesFault i w (l ∷ ls) ≡ linesFault (i + 1) w ls
+    is = first-none (lineFault i w l) (linesFault (i + 1) w ls) none
 
-    count : suc i + length ls ≡ i + suc (length ls)
+    count : i + 1 + length ls ≡ i + suc (length ls)
     count = omega arith
 
-    stood : Stood w (suc i) (acc ++ valuesOf (cellsOf l)) ls y → Stood w i acc (l ∷ ls) y
+    stood : Stood w (i + 1) (acc ++ valuesOf (cellsOf l)) ls y → Stood w i acc (l ∷ ls) y
     stood s =
         record {
           lines = s .lines ∙ count;
@@ -87,7 +86,7 @@ module _ (w i v : ℕ) (acc l : List ℕ) (ls : List (List ℕ)) (list : List �
       let stays : lineOn ≡ rulesNow r list
       = ap (λ x. readOn x ls) (line-many (ruleState false fresh i v 0) refl many l list) ∙ lines-stay r some ls list in
       let is : lineFault i w l ≡ 3 = rw (le-leb 1024 i many) in
-      let first : linesFault i w (l ∷ ls) ≡ 3 = ap (λ f. firstFault f (linesFault (suc i) w ls)) is in
+      let first : linesFault i w (l ∷ ls) ≡ 3 = ap (λ f. firstFault f (linesFault (i + 1) w ls)) is in
       subst (Come w i acc (l ∷ ls)) (sym stays) (come-faulty w i acc l ls r list some first)
 
   module _ (few : i < 1024) (narrow : v ≤ 16) (same : ownFault i w l ≡ ownFault i v l) where
@@ -101,12 +100,12 @@ module _ (w i v : ℕ) (acc l : List ℕ) (ls : List (List ℕ)) (list : List �
         let r = faultedBy (ruleState false fresh i v 0) f in
         let left = readCells (i * v) (begin list) (cellsOf l) .run in
         let stays : lineOn ≡ rulesNow r left = ap (λ x. readOn x ls) (line-faulty i v few narrow l list some) ∙ lines-stay r some ls left in
-        let first : linesFault i w (l ∷ ls) ≡ f = ap (λ g. firstFault g (linesFault (suc i) w ls)) fault-here ∙ first-some f (linesFault (suc i) w ls) some in
+        let first : linesFault i w (l ∷ ls) ≡ f = ap (λ g. firstFault g (linesFault (i + 1) w ls)) fault-here ∙ first-some f (linesFault (i + 1) w ls) some in
         subst (Come w i acc (l ∷ ls)) (sym stays) (come-faulty w i acc l ls r left some first)
 
     -- a line that stands
     come-good : (none : ownFault i v l ≡ 0)
-        → Come w (suc i) (acc ++ valuesOf (cellsOf l)) ls
+        → Come w (i + 1) (acc ++ valuesOf (cellsOf l)) ls
         (readOn (rulesNow (ruleState false fresh (i + 1) (length (cellsOf l)) 0) (sets list (i * v) (valuesOf (cellsOf l)))) ls)
         → Come w i acc (l ∷ ls) lineOn
     come-good none rest =
@@ -162,9 +161,8 @@ module _ (w : ℕ) (narrow : w ≤ 16) where
           let taken = taken-line i w list ns few narrow size (values-length (cellsOf l) ∙ same) in
           let rest = follow (i + 1) left (omega arith) (omega arith) kept in
           come-good w i w (take (i * w) list) l ls list few narrow refl none
-          (subst (λ k. Come w (suc i) (take (i * w) list ++ ns) ls (readOn (rulesNow (ruleState false fresh (i + 1) k 0) left) ls)) (sym same)
-          (subst (λ a. Come w (suc i) a ls (readOn (rulesNow (ruleState false fresh (i + 1) w 0) left) ls)) taken
-          (subst (λ j. Come w j (take ((i + 1) * w) left) ls (readOn (rulesNow (ruleState false fresh (i + 1) w 0) left) ls)) (add-one i) rest)))
+          (subst (λ k. Come w (i + 1) (take (i * w) list ++ ns) ls (readOn (rulesNow (ruleState false fresh (i + 1) k 0) left) ls)) (sym same)
+          (subst (λ a. Come w (i + 1) a ls (readOn (rulesNow (ruleState false fresh (i + 1) w 0) left) ls)) taken rest))
 
       by-count : (t : Bool) → leb 1024 i ≡ t → Come w i (take (i * w) list) (l ∷ ls) (lineOn w i w (take (i * w) list) l ls list)
       by-count true e = come-many w i w (take (i * w) list) l ls list (leb-true 1024 i e)

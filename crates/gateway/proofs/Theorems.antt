@@ -39,7 +39,7 @@ use Rattle.gateway.specs.RuleLines.{cellsOf, linesRead, rulesFrom, rules
 use Rattle.gateway.specs.RuleBytes.{RulesNow}
 use Rattle.gateway.specs.HeaderLines.{eightOf, headerOf, lineSaid, linesSaid}
 use Rattle.gateway.specs.Program.{answered, programOf, rulesEnd, printedBy, printedOf, joined, fedPieces}
-use Rattle.gateway.proofs.HeaderSteps.{row-looked}
+use Rattle.gateway.proofs.HeaderSteps.{said-looked}
 use Rattle.gateway.proofs.HeadersRead.{headers-read}
 use Rattle.gateway.proofs.RulesRead.{Rendered, rules-read}
 
@@ -124,6 +124,6 @@ pub line-first-match : (ls : List (List ℕ)) → rulesFault ls ≡ 0 → (l : L
 line-first-match ls none l good count =
     let R = rulesFrom ls in
     let h = headerOf (cellsOf l) in
-    row-looked R (builtTable R) (allNumbers (cellsOf l)) (length (cellsOf l)) h good count
+    said-looked R (builtTable R) (allNumbers (cellsOf l)) (length (cellsOf l)) h good count
     ∙ ap (λ k. lookedSaid (lookupOf R (builtTable R) k)) (header-eight (cellsOf l))
     ∙ ap lookedSaid (built-lookup R (stands-checked ls none) h)

@@ -4,7 +4,7 @@
 -- the last line.
 -- A fault is its refusal's number, and 0 says that there is none.
 -- Assumes nothing: these are definitions.
-use Prim.Native.Nat.{ℕ, suc, _/_, _%_}
+use Prim.Native.Nat.{ℕ, _+_, _/_, _%_}
 use mathlib.Core.Bool.{Bool}
 use mathlib.Core.List.{List, [], _∷_, _++_}
 use lib.ListN.{length}
@@ -42,7 +42,7 @@ lineFault i w line = pick (leb 1024 i) (numberOf TooManyRules) (ownFault i w lin
 -- the first fault of lines after i lines, where the first line has w cells
 abbrev pub linesFault : ℕ → ℕ → List (List ℕ) → ℕ
 linesFault i w [] = 0
-linesFault i w (l ∷ ls) = firstFault (lineFault i w l) (linesFault (suc i) w ls)
+linesFault i w (l ∷ ls) = firstFault (lineFault i w l) (linesFault (i + 1) w ls)
 
 -- how many cells the first line has, 0 where there is none
 abbrev pub widthOf : List (List ℕ) → ℕ

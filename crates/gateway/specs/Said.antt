@@ -1,9 +1,11 @@
--- 01, The program: the lines that are printed, each ended by CRLF.
+-- 01, The program: the lines that are printed, each ended by CRLF and of at most 64 bytes.
 -- Assumes nothing: these are definitions.
-use Prim.Native.Nat.{ℕ}
+use Prim.Native.Nat.{ℕ, _≤_}
 use mathlib.Core.List.{List, _++_}
+use lib.ListN.{length}
 use Rattle.text.specs.Texts.{bytes}
 use Rattle.text.specs.Decimals.{decimalOf}
+use Rattle.text.specs.Puts.{Put}
 use Rattle.lookup.specs.declared.lookup.Looked.{Looked}
 use Rattle.lookup.specs.declared.lookup.Looked.the-variants.{Rule, Nothing, Refused}
 
@@ -24,3 +26,8 @@ abbrev pub lookedSaid : Looked → List ℕ
 lookedSaid (Rule i t) = decimalOf i ++ testsSaid t
 lookedSaid (Nothing t) = bytes "none" ++ testsSaid t
 lookedSaid (Refused x) = refusedSaid (x .number)
+
+-- a line put from a place of a run on
+pub record PutLine (out : List ℕ) (at : ℕ) (line : List ℕ) (after : List ℕ) (next : ℕ) : Type 0 where
+  pub put : Put out at line after next
+  pub short : length line ≤ 64

@@ -6,11 +6,9 @@ use lookup::lookup::lookup;
 use ranges::refusal::BAD_LINE;
 use text::row::Row;
 ghost use mathlib.Core.Path.{_≡_};
-ghost use Prim.Native.Nat.{_≤_};
-ghost use lib.ListN.{length};
 ghost use Rattle.lists.specs.Rules.{listed};
-ghost use Rattle.text.specs.Puts.{Put};
 ghost use Rattle.gateway.specs.HeaderLines.{eightOf, cellsSaid};
+ghost use Rattle.gateway.specs.Said.{PutLine};
 
 // Gives a header's eight numbers by value, and zeros where there are fewer.
 fn eight(header: &[u32]) -> [u32; 8]
@@ -42,11 +40,9 @@ pub fn put_row(
     at: usize,
 ) -> usize
     ensures { λ r.
-        ⌜ Put (now (out .entry)) at
+        ⌜ PutLine (now (out .entry)) at
         (cellsSaid (listed shape (now (list .entry))) (now (table .entry)) (row .good) (row .cells) (now (header .entry)))
         (now (out .exit)) r ⌝ }
-    ensures { λ _.
-        ⌜ length (cellsSaid (listed shape (now (list .entry))) (now (table .entry)) (row .good) (row .cells) (now (header .entry))) ≤ 64 ⌝ }
 {
     if !row.good {
         return put_refused(BAD_LINE, out, at);

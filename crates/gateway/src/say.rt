@@ -7,7 +7,7 @@ use text::put::put_text;
 ghost use Prim.Native.Nat.{_≤_};
 ghost use lib.ListN.{length};
 ghost use Rattle.text.specs.Puts.{Put};
-ghost use Rattle.gateway.specs.Said.{headSaid, refusedSaid, testsSaid, lookedSaid};
+ghost use Rattle.gateway.specs.Said.{headSaid, refusedSaid, testsSaid, lookedSaid, PutLine};
 
 // Puts the first line: rule,tests.
 pub fn put_head(out: &mut [u8], at: usize) -> usize
@@ -18,8 +18,7 @@ pub fn put_head(out: &mut [u8], at: usize) -> usize
 
 // Puts the line refused,NUMBER.
 pub fn put_refused(number: u32, out: &mut [u8], at: usize) -> usize
-    ensures { λ r. ⌜ Put (now (out .entry)) at (refusedSaid number) (now (out .exit)) r ⌝ }
-    ensures { λ _. ⌜ length (refusedSaid number) ≤ 64 ⌝ }
+    ensures { λ r. ⌜ PutLine (now (out .entry)) at (refusedSaid number) (now (out .exit)) r ⌝ }
 {
     let a = put_text(b"refused,", out, at);
     let b = put_number(number as u64, out, a);
@@ -38,8 +37,7 @@ fn put_tests(tests: usize, out: &mut [u8], at: usize) -> usize
 
 // Puts the line of a lookup's answer: RULE,TESTS or none,TESTS, or the refusal.
 pub fn put_looked(looked: Looked, out: &mut [u8], at: usize) -> usize
-    ensures { λ r. ⌜ Put (now (out .entry)) at (lookedSaid looked) (now (out .exit)) r ⌝ }
-    ensures { λ _. ⌜ length (lookedSaid looked) ≤ 64 ⌝ }
+    ensures { λ r. ⌜ PutLine (now (out .entry)) at (lookedSaid looked) (now (out .exit)) r ⌝ }
 {
     match looked {
         Looked::Rule { rule, tests } => {

@@ -89,9 +89,9 @@ unfolding rowNext keptAt
 filled-whole from s c e = rw (e, cell-is c)
 
 -- there is always a first piece
-onto-whole : (from : ℕ) (s : Reading) → s .row .cell ≡ Empty → (b : ℕ) (cs : List (List ℕ)) → goesOn from s (inFront b cs) ≡ readCells from s (inFront b cs)
-onto-whole from s e b [] = rw (filled-whole from s (b ∷ []) e)
-onto-whole from s e b (c ∷ cs) = rw (filled-whole from s (b ∷ c) e)
+front-whole : (from : ℕ) (s : Reading) → s .row .cell ≡ Empty → (b : ℕ) (cs : List (List ℕ)) → goesOn from s (inFront b cs) ≡ readCells from s (inFront b cs)
+front-whole from s e b [] = rw (filled-whole from s (b ∷ []) e)
+front-whole from s e b (c ∷ cs) = rw (filled-whole from s (b ∷ c) e)
 
 whole : (by from : ℕ) (s : Reading) → s .row .cell ≡ Empty → (l : List ℕ) → goesOn from s (cellsIn by l) ≡ readCells from s (cellsIn by l)
 whole by from s e [] = rw (filled-whole from s [] e)
@@ -99,7 +99,7 @@ whole by from s e (b ∷ l) = go (eqb b by)
   where
     go : (t : Bool) → goesOn from s (pick t ([] ∷ cellsIn by l) (inFront b (cellsIn by l))) ≡ readCells from s (pick t ([] ∷ cellsIn by l) (inFront b (cellsIn by l)))
     go true = rw (filled-whole from s [] e)
-    go false = onto-whole from s e b (cellsIn by l)
+    go false = front-whole from s e b (cellsIn by l)
 
 next-starts : (row : Row) → rowNext row .cell ≡ Empty
 unfolding rowNext

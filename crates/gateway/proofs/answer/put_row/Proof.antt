@@ -3,7 +3,7 @@
 use borrow.Author.Needs.{needs}
 use borrow.Author.Tests.{not-true, not-false}
 use Rattle.lists.specs.Rules.{listed}
-use Rattle.gateway.proofs.HeaderSteps.{row-bad, row-other, row-looked}
+use Rattle.gateway.proofs.HeaderSteps.{said-bad, said-other, said-looked}
 use Rattle.gateway.proofs.answer.put_row.Statement.{statement}
 use Rattle.gateway.proofs.answer.put_row.Tie as tie
 
@@ -20,7 +20,7 @@ returns c =
     let test = put .before .before in
     let entry = test .before .before .before .before .before .before in
     let a = entry .args in
-    rw (row-bad (listed (a .shape) (a .list .now)) (a .table .now) (a .row .good) (a .row .cells) (a .header .now) (not-true _ (test .if1 .taken)))
+    rw (said-bad (listed (a .shape) (a .list .now)) (a .table .now) (a .row .good) (a .row .cells) (a .header .now) (not-true _ (test .if1 .taken)))
     (put .put-refused .ensures)
 
 cast-if2 : tie.Need-cast-if2
@@ -40,7 +40,7 @@ returns-2 c =
     let test = count .before .before .before in
     let entry = test .before .before .before .before .before .before in
     let a = entry .args in
-    rw (row-other (listed (a .shape) (a .list .now)) (a .table .now) (a .row .good) (a .row .cells) (a .header .now) (not-false _ (test .if1 .left)) (count .if2 .taken))
+    rw (said-other (listed (a .shape) (a .list .now)) (a .table .now) (a .row .good) (a .row .cells) (a .header .now) (not-false _ (test .if1 .left)) (count .if2 .taken))
     (put .put-refused2 .ensures)
 
 eight-requires : tie.Need-eight-requires
@@ -64,7 +64,7 @@ returns-3 c =
     let test = count .before .before .before in
     let entry = test .before .before .before .before .before .before in
     let a = entry .args in
-    rw (row-looked (listed (a .shape) (a .list .now)) (a .table .now) (a .row .good) (a .row .cells) (a .header .now) (not-false _ (test .if1 .left)) (count .if2 .left), ← looked .before .eight .ensures, ← looked .lookup .ensures)
+    rw (said-looked (listed (a .shape) (a .list .now)) (a .table .now) (a .row .good) (a .row .cells) (a .header .now) (not-false _ (test .if1 .left)) (count .if2 .left), ← looked .before .eight .ensures, ← looked .lookup .ensures)
     (put .put-looked .ensures)
 
 pub put-row-spec : {M : Type 1} → statement M

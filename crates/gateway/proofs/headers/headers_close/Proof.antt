@@ -26,7 +26,7 @@ returns c =
     let put = last .before .before .before .before in
     let next = put .before .before .before .before .before in
     let entry = next .before .before .before .before .before .before .before in
-    close-printed _ _ _ _ (next .row-next .ensures .0) (next .row-next .ensures .1) (last .clear .ensures) (put .put-row .ensures .0) (put .put-row .ensures .1) (entry .pre)
+    close-printed _ _ _ _ (next .row-next .ensures .0) (next .row-next .ensures .1) (last .clear .ensures) (put .put-row .ensures) (entry .pre)
 
 pub headers-close-spec : {M : Type 1} → statement M
 headers-close-spec =

@@ -5,7 +5,7 @@ use mathlib.Core.Path.{sym}
 use native.Mathlib.Omega.{arith}
 use lib.Seq.{length-take-le}
 use Rattle.lists.specs.Rules.{listed}
-use Rattle.sorting.proofs.Sound.{list-shaped}
+use Rattle.lists.proofs.Sound.{list-shaped}
 use Rattle.gateway.proofs.Readying.{table-within, table-made}
 use Rattle.gateway.proofs.ready.make_table.Statement.{statement}
 use Rattle.gateway.proofs.ready.make_table.Tie as tie

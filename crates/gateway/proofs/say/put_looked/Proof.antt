@@ -44,7 +44,10 @@ returns c =
     let number = tests .before .before .before .before in
     let arm = number .before .before .before in
     rw (arm .looked .given .1)
-    (put-then (number .put-number .ensures) (tests .put-tests .ensures .0), rule-short _ _ (omega arith) (tests .put-tests .ensures .1))
+    record {
+      put = put-then (number .put-number .ensures) (tests .put-tests .ensures .0);
+      short = rule-short (arm .looked .given .0 .0) (arm .looked .given .0 .1 .0) (omega arith) (tests .put-tests .ensures .1);
+    }
 
 same-length-2 : tie.Need-same-length-2
 same-length-2 c = search needs
@@ -55,7 +58,11 @@ returns-2 c =
     let tests = c .before .before in
     let word = tests .before .before .before .before in
     let arm = word .before .before .before .before in
-    rw (arm .looked2 .given .1) (put-then (word .put-text .ensures) (tests .put-tests2 .ensures .0), none-short _ (tests .put-tests2 .ensures .1))
+    rw (arm .looked2 .given .1)
+    record {
+      put = put-then (word .put-text .ensures) (tests .put-tests2 .ensures .0);
+      short = none-short (arm .looked2 .given .0 .0) (tests .put-tests2 .ensures .1);
+    }
 
 same-length-3 : tie.Need-same-length-3
 same-length-3 c = search needs

@@ -30,7 +30,10 @@ returns c =
     let end = c .before .before in
     let number = end .before .before .before .before .before in
     let word = number .before .before .before .before in
-    (put-then (put-then (word .put-text .ensures) (number .put-number .ensures)) (end .put-text2 .ensures), refused-short _ (omega arith))
+    record {
+      put = put-then (put-then (word .put-text .ensures) (number .put-number .ensures)) (end .put-text2 .ensures);
+      short = refused-short _ (omega arith);
+    }
 
 pub put-refused-spec : {M : Type 1} → statement M
 put-refused-spec =
