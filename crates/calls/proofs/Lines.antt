@@ -2,17 +2,17 @@
 --     line-ends, line-none, line-within the first LF
 --     number-ends, number-takes, name-ends, name-takes      one byte more, way by way
 -- Assumes nothing.
-use Prim.Native.Nat.{ℕ, zero, suc, _+_, _≤_, _<_}
+use Prim.Native.Nat.{ℕ, zero, suc, _≤_, _<_}
 use mathlib.Core.Bool.{Bool, true, false}
 use mathlib.Core.List.{List, [], _∷_}
-use mathlib.Core.Path.{_≡_, refl, sym, ap, _∙_}
+use mathlib.Core.Path.{_≡_, refl, ap}
 use native.Mathlib.Omega.{arith}
 use borrow.Author.Tests.{eq-eqb, ne-eqb}
-use lib.ListN.{length, getD, set}
+use lib.ListN.{length, getD}
 use lib.Dec.{eqb}
 use Rattle.ranges.specs.Numbers.{pick}
 use Rattle.text.specs.Rows.{rowWith, rowNext, keptAt}
-use Rattle.text.specs.Puts.{Put, placeAfter}
+use Rattle.text.specs.Puts.{Put}
 use Rattle.text.specs.declared.row.Row.{Row}
 use Rattle.calls.specs.declared.line.Line.{Line}
 use Rattle.calls.specs.Lines.{lineIn, heard, lineOf, heardByte}

@@ -3,27 +3,23 @@
 --     exact-not, exact-is                       what follows it
 --     tables-none, tables-cut, tables-wide, tables-are     where a list and a table end, way by way
 --     run-told, exact-told, list-told, table-told, tables-told       what an end tells
---     narrow-all, narrow-not, narrow-at         numbers of 16 bits
---     narrowed-none, narrowed-more, narrowed-all           and their writing, one by one
 --     tables-asked                              which is what a call asks
---     room-long, room-within, room-count, room-front       the room that they are written to
 --     eight-is                                  eight numbers by value
 -- Assumes nothing.
-use Prim.Native.Nat.{ℕ, _+_, _-_, _≤_, _<_}
+use Prim.Native.Nat.{ℕ, _+_, _≤_, _<_}
 use mathlib.Core.Bool.{Bool, true, false}
-use mathlib.Core.List.{List, _++_}
+use mathlib.Core.List.{List}
 use mathlib.Core.Path.{_≡_, refl, sym, ap, _∙_}
 use native.Mathlib.Omega.{arith}
-use borrow.Author.Tests.{lt-ltb, le-ltb, le-leb, lt-leb, eq-eqb, ne-eqb, ltb-true, ltb-false, leb-true, leb-false, eqb-true, eqb-false}
-use lib.ListN.{length, getD, set, take, replicate, length-set, length-append, length-take, length-drop, length-replicate}
-use lib.Seq.{ext-getD, getD-set-same, getD-set-other, take-at, length-take-le}
+use borrow.Author.Tests.{lt-ltb, le-ltb, le-leb, lt-leb, eq-eqb, ne-eqb, ltb-false, eqb-true}
+use lib.ListN.{length, getD, length-take, length-drop}
+use lib.Seq.{ext-getD}
 use lib.Dec.{ltb, leb, eqb}
-use Rattle.ranges.specs.Numbers.{pick, all, tab}
-use Rattle.ranges.proofs.Numbers.{never, all-yes, all-no, all-at, tab-length, tab-at}
-use Rattle.calls.specs.Parts.{between, runEnd, exactly, listEnd, onEnd, allNarrow, tableEnds, Tabled}
+use Rattle.ranges.specs.Numbers.{pick, tab}
+use Rattle.ranges.proofs.Numbers.{never, tab-length, tab-at}
+use Rattle.calls.specs.Parts.{fromTo, runEnd, exactly, listEnd, onEnd, allNarrow, tableEnds, Tabled}
 use Rattle.calls.specs.declared.part.End.{End}
 use Rattle.calls.specs.declared.part.End.the-variants.{At, Missing}
-use Rattle.calls.specs.declared.part.Ends.{Ends}
 use Rattle.calls.specs.declared.part.Ends.the-variants.{At as Both, Missing as Neither}
 
 -- ---- where a run ends
@@ -46,17 +42,17 @@ module _ (most : ℕ) (ns : List ℕ) (at : ℕ) where
   run-is lt few fits = rw (lt-leb (length ns) at lt, le-ltb most (getD ns at 0) few, le-ltb (length ns) (at + 1 + getD ns at 0) fits)
 
 -- what a run's end tells: the run stands in the numbers, and is not too long
-pub record Run (most : ℕ) (ns : List ℕ) (at e : ℕ) : Type 0 where
+pub record RunTo (most : ℕ) (ns : List ℕ) (at e : ℕ) : Type 0 where
   pub begun : at + 1 ≤ e
   pub within : e ≤ length ns
   pub few : e ≤ at + 1 + most
 
-pub run-told : (most : ℕ) (ns : List ℕ) (at : ℕ) {e : ℕ} → runEnd most ns at ≡ At e → Run most ns at e
+pub run-told : (most : ℕ) (ns : List ℕ) (at : ℕ) {e : ℕ} → runEnd most ns at ≡ At e → RunTo most ns at e
 unfolding runEnd
 run-told most ns at {e} = go (leb (length ns) at) (ltb most (getD ns at 0)) (ltb (length ns) (at + 1 + getD ns at 0)) refl refl refl
   where
     go : (s t u : Bool) → leb (length ns) at ≡ s → ltb most (getD ns at 0) ≡ t → ltb (length ns) (at + 1 + getD ns at 0) ≡ u
-        → pick s Missing (pick t Missing (pick u Missing (At (at + 1 + getD ns at 0)))) ≡ At e → Run most ns at e
+        → pick s Missing (pick t Missing (pick u Missing (At (at + 1 + getD ns at 0)))) ≡ At e → RunTo most ns at e
     go true t u p q r is = never (cc)
     go false true u p q r is = never (cc)
     go false false true p q r is = never (cc)
@@ -68,9 +64,6 @@ run-told most ns at {e} = go (leb (length ns) at) (ltb most (getD ns at 0)) (ltb
 
 -- ---- what follows it
 module _ (ns : List ℕ) (more : ℕ) (end : End) where
-  pub exact-none : end ≡ Missing → Missing ≡ exactly ns more end
-  exact-none is = rw is
-
   pub exact-not : {e : ℕ} → end ≡ At e → (length ns ≡ e + more → ⊥) → Missing ≡ exactly ns more end
   exact-not {e} is ne = rw (is, ne-eqb (length ns) (e + more) ne)
 
@@ -102,66 +95,6 @@ list-told ns more told =
     let whole = exact-told ns more (runEnd 16500 ns 1) told in
     record { begun = run-told 16500 ns 1 (whole .0) .begun; follow = whole .1 }
 
--- ---- numbers of 16 bits
-module _ (ns : List ℕ) where
-  pub narrow-all : ((k : ℕ) → k < length ns → getD ns k 0 ≤ 65535) → true ≡ allNarrow ns
-  unfolding allNarrow
-  narrow-all each = sym (all-yes (λ k. leb (getD ns k 0) 65535) (length ns) (λ k lt. le-leb (getD ns k 0) 65535 (each k lt)))
-
-  pub narrow-not : (k : ℕ) → k < length ns → 65535 < getD ns k 0 → false ≡ allNarrow ns
-  unfolding allNarrow
-  narrow-not k lt over = sym (all-no (λ j. leb (getD ns j 0) 65535) (length ns) k lt (lt-leb (getD ns k 0) 65535 over))
-
-  pub narrow-at : allNarrow ns ≡ true → (k : ℕ) → k < length ns → getD ns k 0 ≤ 65535
-  unfolding allNarrow
-  narrow-at is k lt = leb-true (getD ns k 0) 65535 (all-at (λ j. leb (getD ns j 0) 65535) (length ns) is k lt)
-
--- the first i numbers are written to a table of as many
-pub record Narrowed (ns T : List ℕ) (i : ℕ) : Type 0 where
-  pub few : i ≤ length ns
-  pub long : length T ≡ length ns
-  pub written : (k : ℕ) → k < i → getD T k 0 ≡ getD ns k 0
-
-pub narrowed-none : {ns T : List ℕ} → length T ≡ length ns → Narrowed ns T 0
-narrowed-none long = record { few = omega arith; long = long; written = λ k lt. absurd (omega arith) }
-
-pub narrowed-more : {ns T : List ℕ} {i : ℕ} → Narrowed ns T i → i < length ns → Narrowed ns (set T i (getD ns i 0)) (i + 1)
-narrowed-more {ns} {T} {i} so lt =
-    record {
-      few = omega arith;
-      long = length-set T i (getD ns i 0) ∙ so .long;
-      written = λ k l. go k (eqb k i) refl l;
-    }
-  where
-    go : (k : ℕ) (t : Bool) → eqb k i ≡ t → k < i + 1 → getD (set T i (getD ns i 0)) k 0 ≡ getD ns k 0
-    go k true e l =
-        let same : k ≡ i = eqb-true k i e in
-        let inside : i < length T = omega (arith, so .long) in
-        rw same (getD-set-same T i (getD ns i 0) 0 inside)
-    go k false e l =
-        let other : k ≡ i → ⊥ = eqb-false k i e in
-        getD-set-other T i k (getD ns i 0) 0 other ∙ so .written k (omega arith)
-
-pub narrowed-all : {ns T : List ℕ} {i : ℕ} → Narrowed ns T i → length ns ≤ i → T ≡ ns
-narrowed-all {ns} {T} {i} so le = ext-getD 0 T ns (so .long) (λ k lt. so .written k (omega (arith, so .long)))
-
--- room for them: the first part of a run of 18500 numbers
-pub room-long : (ns : List ℕ) → length ns ≤ 18500 → length ns ≡ length (take (length ns) (replicate {A = ℕ} 18500 0))
-room-long ns few =
-    let zeros : List ℕ = replicate 18500 0 in
-    sym (length-take-le (length ns) zeros (omega (arith, length-replicate {A = ℕ} 18500 0)))
-
--- and what stands there once they are written
-module _ {ns T : List ℕ} (is : T ≡ ns) (rest : List ℕ) where
-  pub room-within : length ns ≤ length (T ++ rest)
-  room-within = rw length-append (omega (arith, ap length is))
-
-  pub room-count : length ns ≡ length (take (length ns) (T ++ rest))
-  room-count = sym (length-take-le (length ns) (T ++ rest) room-within)
-
-  pub room-front : take (length ns) (T ++ rest) ≡ ns
-  room-front = take-at T rest (length ns) (ap length is) ∙ is
-
 -- ---- D LIST TABLE
 -- what the end of a table tells, whose length stands at place e: it is not too long, and exactly so many numbers more follow
 pub record TableAt (ns : List ℕ) (more e t : ℕ) : Type 0 where
@@ -188,11 +121,11 @@ module _ (ns : List ℕ) (more : ℕ) {first : End} (listed : first ≡ runEnd 1
     tables-cut none = rw (sym listed ∙ at-list, ← ran, sym is ∙ none)
 
     -- a number of the table is too large
-    pub tables-wide : {t : ℕ} → second ≡ At t → allNarrow (between (e + 1) t ns) ≡ false → Neither ≡ tableEnds ns more
+    pub tables-wide : {t : ℕ} → second ≡ At t → allNarrow (fromTo (e + 1) t ns) ≡ false → Neither ≡ tableEnds ns more
     unfolding tableEnds
     tables-wide at wide = rw (sym listed ∙ at-list, ← ran, sym is ∙ at, wide)
 
-    pub tables-are : {t : ℕ} → second ≡ At t → allNarrow (between (e + 1) t ns) ≡ true → Both e t ≡ tableEnds ns more
+    pub tables-are : {t : ℕ} → second ≡ At t → allNarrow (fromTo (e + 1) t ns) ≡ true → Both e t ≡ tableEnds ns more
     unfolding tableEnds
     tables-are at narrow = rw (sym listed ∙ at-list, ← ran, sym is ∙ at, narrow)
 
@@ -201,31 +134,31 @@ module _ (ns : List ℕ) (more : ℕ) {first : End} (listed : first ≡ runEnd 1
 pub record TableTo (ns : List ℕ) (more e t : ℕ) : Type 0 where
   pub begun : 2 ≤ e
   pub table : TableAt ns more e t
-  pub narrow : allNarrow (between (e + 1) t ns) ≡ true
+  pub narrow : allNarrow (fromTo (e + 1) t ns) ≡ true
 
 pub tables-told : (ns : List ℕ) (more : ℕ) {e t : ℕ} → tableEnds ns more ≡ Both e t → TableTo ns more e t
 unfolding tableEnds
 tables-told ns more {e} {t} = go (runEnd 16500 ns 1) refl
   where
-    last : {x y : ℕ} → 2 ≤ x → exactly ns more (runEnd 18500 ns x) ≡ At y → (b : Bool) → allNarrow (between (x + 1) y ns) ≡ b → pick b (Both x y) Neither ≡ Both e t → TableTo ns more e t
+    last : {x y : ℕ} → 2 ≤ x → exactly ns more (runEnd 18500 ns x) ≡ At y → (b : Bool) → allNarrow (fromTo (x + 1) y ns) ≡ b → pick b (Both x y) Neither ≡ Both e t → TableTo ns more e t
     last {x} {y} begun at true narrow is =
         let same : x ≡ e = cc in
         let same' : y ≡ t = cc in
         rw (← same, ← same') (record { begun = begun; table = table-told ns more refl refl at; narrow = narrow })
     last begun at false narrow is = never (cc)
 
-    next : {x : ℕ} → 2 ≤ x → (s : End) → exactly ns more (runEnd 18500 ns x) ≡ s → onEnd s (λ y. pick (allNarrow (between (x + 1) y ns)) (Both x y) Neither) Neither ≡ Both e t → TableTo ns more e t
-    next {x} begun (At y) at is = last begun at (allNarrow (between (x + 1) y ns)) refl is
+    next : {x : ℕ} → 2 ≤ x → (s : End) → exactly ns more (runEnd 18500 ns x) ≡ s → onEnd s (λ y. pick (allNarrow (fromTo (x + 1) y ns)) (Both x y) Neither) Neither ≡ Both e t → TableTo ns more e t
+    next {x} begun (At y) at is = last begun at (allNarrow (fromTo (x + 1) y ns)) refl is
     next begun Missing at is = never (cc)
 
     go : (s : End) → runEnd 16500 ns 1 ≡ s
-        → onEnd s (λ x. onEnd (exactly ns more (runEnd 18500 ns x)) (λ y. pick (allNarrow (between (x + 1) y ns)) (Both x y) Neither) Neither) Neither ≡ Both e t
+        → onEnd s (λ x. onEnd (exactly ns more (runEnd 18500 ns x)) (λ y. pick (allNarrow (fromTo (x + 1) y ns)) (Both x y) Neither) Neither) Neither ≡ Both e t
         → TableTo ns more e t
     go (At x) at is = next (run-told 16500 ns 1 at .begun) (exactly ns more (runEnd 18500 ns x)) refl is
     go Missing at is = never (cc)
 
 -- so the table's numbers and those that follow are as a call asks
-pub tables-asked : {ns : List ℕ} {more e t k : ℕ} → TableTo ns more e t → more ≡ k → Tabled (between (e + 1) t ns) (between t (t + more) ns) k
+pub tables-asked : {ns : List ℕ} {more e t k : ℕ} → TableTo ns more e t → more ≡ k → Tabled (fromTo (e + 1) t ns) (fromTo t (t + more) ns) k
 tables-asked {ns} {more} {e} {t} {k} so is =
     record {
       few = simp (length-take, length-drop) (omega (arith, so .table .few));

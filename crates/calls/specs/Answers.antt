@@ -1,9 +1,8 @@
 -- The answer to a line: what its call answers, or bad where the line is no call.
--- `answerSaid` says it of a line as it has been heard, and contracts cite it; `answerOf` says it of the line's bytes, for a
+-- `answerSaid` says it of a line as it has been heard, and contracts cite it; `answerTo` says it of the line's bytes, for a
 -- reader. That the two agree is compared by tests/run and not proved.
 -- Assumes nothing: these are definitions.
 use Prim.Native.Nat.{ℕ}
-use mathlib.Core.Bool.{Bool}
 use mathlib.Core.List.{List, [], _∷_}
 use lib.ListN.{length, take}
 use lib.Dec.{ltb}
@@ -34,13 +33,13 @@ wordsSaid (name ∷ []) = badSaid
 wordsSaid (name ∷ n ∷ ns) = pick (allNumbers (n ∷ ns)) (wordSaid (wordOf name) (valuesOf (n ∷ ns))) badSaid
 
 -- a line's words are parted by single blanks
-abbrev pub answerOf : List ℕ → List ℕ
-answerOf line = wordsSaid (cellsIn 32 line)
+abbrev pub answerTo : List ℕ → List ℕ
+answerTo line = wordsSaid (cellsIn 32 line)
 
 -- ---- of a line as it has been heard
 -- where every number stands and there was room for it
-abbrev pub rowSaid : ℕ → List ℕ → Row → List ℕ → List ℕ
-rowSaid k name row run =
+abbrev pub namedSaid : ℕ → List ℕ → Row → List ℕ → List ℕ
+namedSaid k name row run =
     pick (row .good)
     (pick (ltb (length run) (row .cells)) badSaid
     (pick (ltb (length name) k) badSaid
@@ -50,5 +49,5 @@ rowSaid k name row run =
 unfoldable pub answerSaid : Heard → List ℕ
 answerSaid s =
     pick (s .line .named)
-    (rowSaid (s .line .length) (s .name) (rowNext (s .line .row)) (keptAt (s .line .row) 0 (s .numbers)))
+    (namedSaid (s .line .length) (s .name) (rowNext (s .line .row)) (keptAt (s .line .row) 0 (s .numbers)))
     badSaid

@@ -1,8 +1,8 @@
 -- A line of calls: words parted by single blanks, the first the call's name and the others numbers; LF ends it.
--- Read byte by byte, as the code goes. `answerOf` of `Answers.antt` speaks of a whole line's bytes instead; that the two agree
+-- Read byte by byte, as the code goes. `answerTo` of `Answers.antt` speaks of a whole line's bytes instead; that the two agree
 -- is compared by tests/run and not proved.
 -- Assumes nothing: these are definitions.
-use Prim.Native.Nat.{ℕ, suc, _+_}
+use Prim.Native.Nat.{ℕ, suc}
 use mathlib.Core.Bool.{Bool, true, false}
 use mathlib.Core.List.{List, [], _∷_}
 use lib.ListN.{length, set}

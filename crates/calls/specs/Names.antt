@@ -11,32 +11,32 @@ use Rattle.calls.specs.declared.word.Word.the-variants.{Check, Scan, Ind
 use Rattle.calls.specs.declared.word.TableWord.the-variants.{Build, Lookup, Audit, Report}
 
 -- the same bytes
-abbrev pub alike : List ℕ → List ℕ → Bool
-alike [] [] = true
-alike [] (b ∷ bs) = false
-alike (a ∷ as') [] = false
-alike (a ∷ as') (b ∷ bs) = eqb a b and alike as' bs
+abbrev pub sameBytes : List ℕ → List ℕ → Bool
+sameBytes [] [] = true
+sameBytes [] (b ∷ bs) = false
+sameBytes (a ∷ as') [] = false
+sameBytes (a ∷ as') (b ∷ bs) = eqb a b and sameBytes as' bs
 
 -- the calls of prefixes and ranges
 unfoldable pub prefixWord : List ℕ → Word
 prefixWord name =
-    pick (alike name (bytes "p2r")) P2r
-    (pick (alike name (bytes "r2p")) R2p
+    pick (sameBytes name (bytes "p2r")) P2r
+    (pick (sameBytes name (bytes "r2p")) R2p
     Unknown)
 
 -- the calls of a list and a table, and those above
 unfoldable pub tableWord : List ℕ → Word
 tableWord name =
-    pick (alike name (bytes "build")) (Table Build)
-    (pick (alike name (bytes "lookup")) (Table Lookup)
-    (pick (alike name (bytes "audit")) (Table Audit)
-    (pick (alike name (bytes "report")) (Table Report)
+    pick (sameBytes name (bytes "build")) (Table Build)
+    (pick (sameBytes name (bytes "lookup")) (Table Lookup)
+    (pick (sameBytes name (bytes "audit")) (Table Audit)
+    (pick (sameBytes name (bytes "report")) (Table Report)
     (prefixWord name))))
 
 -- which call a name asks for
 unfoldable pub wordOf : List ℕ → Word
 wordOf name =
-    pick (alike name (bytes "check")) Check
-    (pick (alike name (bytes "scan")) Scan
-    (pick (alike name (bytes "independent")) Independent
+    pick (sameBytes name (bytes "check")) Check
+    (pick (sameBytes name (bytes "scan")) Scan
+    (pick (sameBytes name (bytes "independent")) Independent
     (tableWord name)))

@@ -16,8 +16,8 @@ use Rattle.calls.specs.declared.part.Ends.{Ends}
 use Rattle.calls.specs.declared.part.Ends.the-variants.{At as Both, Missing as Neither}
 
 -- the numbers from place a to before place e
-abbrev pub between : ℕ → ℕ → List ℕ → List ℕ
-between a e ns = take (e - a) (drop a ns)
+abbrev pub fromTo : ℕ → ℕ → List ℕ → List ℕ
+fromTo a e ns = take (e - a) (drop a ns)
 
 -- where the run from place `at` on ends: a length, at most `most`, and then that many numbers
 -- (of 2 3 7 8 9 5 the run from place 1 ends at place 5)
@@ -51,7 +51,7 @@ allNarrow ns = all (length ns) (λ k. leb (getD ns k 0) 65535)
 unfoldable pub tableEnds : List ℕ → ℕ → Ends
 tableEnds ns more =
     onEnd (runEnd 16500 ns 1)
-    (λ e. onEnd (exactly ns more (runEnd 18500 ns e)) (λ t. pick (allNarrow (between (e + 1) t ns)) (Both e t) Neither) Neither)
+    (λ e. onEnd (exactly ns more (runEnd 18500 ns e)) (λ t. pick (allNarrow (fromTo (e + 1) t ns)) (Both e t) Neither) Neither)
     Neither
 
 -- what a call of a list and a table asks of its table's numbers and of those that follow
@@ -69,8 +69,8 @@ abbrev pub shapeIn : List ℕ → Shape
 shapeIn ns = record { d = getD ns 0 0 }
 
 abbrev pub rulesTo : ℕ → List ℕ → Rules
-rulesTo e ns = listed (shapeIn ns) (between 2 e ns)
+rulesTo e ns = listed (shapeIn ns) (fromTo 2 e ns)
 
 -- HEADER, from a place on
 abbrev pub headerAt : ℕ → List ℕ → List ℕ
-headerAt at ns = between at (at + 8) ns
+headerAt at ns = fromTo at (at + 8) ns

@@ -30,44 +30,44 @@ allSpaced [] = []
 allSpaced (n ∷ ns) = spaced n ++ allSpaced ns
 
 -- refused NUMBER FIRST SECOND
-abbrev pub refusedSaid : Refusal → List ℕ
-refusedSaid x = bytes "refused" ++ spaced (x .number) ++ spaced (x .at) ++ spaced (x .then)
+abbrev pub refusalSaid : Refusal → List ℕ
+refusalSaid x = bytes "refused" ++ spaced (x .number) ++ spaced (x .at) ++ spaced (x .then)
 
 -- ok N, or the refusal
 abbrev pub countSaid : Count → List ℕ
 countSaid (Is k) = bytes "ok" ++ spaced k
-countSaid (Refused x) = refusedSaid x
+countSaid (Refused x) = refusalSaid x
 
 -- ok LOW HIGH, or the refusal
 abbrev pub boundsSaid : Bounds → List ℕ
 boundsSaid (Are low high) = bytes "ok" ++ spaced low ++ spaced high
-boundsSaid (NoBounds x) = refusedSaid x
+boundsSaid (NoBounds x) = refusalSaid x
 
 -- ok RULE, ok none, or the refusal
 abbrev pub matchSaid : Match → List ℕ
 matchSaid (Rule i) = bytes "ok" ++ spaced i
 matchSaid Nothing = bytes "ok none"
-matchSaid (NoMatch x) = refusedSaid x
+matchSaid (NoMatch x) = refusalSaid x
 
 -- ok yes, ok no I J, or the refusal
 abbrev pub pairSaid : Pair → List ℕ
 pairSaid Independent = bytes "ok yes"
 pairSaid (Both i j) = bytes "ok no" ++ spaced i ++ spaced j
-pairSaid (NoPair x) = refusedSaid x
+pairSaid (NoPair x) = refusalSaid x
 
 -- ok RULE TESTS, ok none TESTS, or the refusal
-abbrev pub lookedSaid : Looked → List ℕ
-lookedSaid (Found i t) = bytes "ok" ++ spaced i ++ spaced t
-lookedSaid (NotFound t) = bytes "ok none" ++ spaced t
-lookedSaid (NoLook x) = refusedSaid x
+abbrev pub foundSaid : Looked → List ℕ
+foundSaid (Found i t) = bytes "ok" ++ spaced i ++ spaced t
+foundSaid (NotFound t) = bytes "ok none" ++ spaced t
+foundSaid (NoLook x) = refusalSaid x
 
 -- ok yes, ok no, or the refusal
 abbrev pub verdictSaid : Verdict → List ℕ
 verdictSaid Yes = bytes "ok yes"
 verdictSaid No = bytes "ok no"
-verdictSaid (NoVerdict x) = refusedSaid x
+verdictSaid (NoVerdict x) = refusalSaid x
 
 -- ok SIZE SMALLEST, or the refusal
 abbrev pub partSaid : Part → List ℕ
 partSaid (PartIs size least) = bytes "ok" ++ spaced size ++ spaced least
-partSaid (NoPart x) = refusedSaid x
+partSaid (NoPart x) = refusalSaid x

@@ -2,8 +2,7 @@
 -- numbers. Where the numbers are not as the word wants them, the answer is bad.
 -- Assumes nothing: these are definitions.
 use Prim.Native.Nat.{ℕ, _+_}
-use mathlib.Core.Bool.{Bool}
-use mathlib.Core.List.{List, [], _∷_, _++_}
+use mathlib.Core.List.{List, _++_}
 use lib.ListN.{length, getD, drop}
 use lib.Dec.{ltb, eqb}
 use Rattle.ranges.specs.Numbers.{pick}
@@ -17,8 +16,8 @@ use Rattle.sorting.specs.Report.{reportOf}
 use Rattle.lookup.specs.Lookup.{lookupOf}
 use Rattle.lists.specs.Rules.{Rules}
 use Rattle.text.specs.Texts.{bytes}
-use Rattle.calls.specs.Said.{allSpaced, countSaid, boundsSaid, matchSaid, pairSaid, lookedSaid, verdictSaid, partSaid}
-use Rattle.calls.specs.Parts.{between, listEnd, onEnd, tableEnds, onEnds, rulesTo, headerAt}
+use Rattle.calls.specs.Said.{allSpaced, countSaid, boundsSaid, matchSaid, pairSaid, foundSaid, verdictSaid, partSaid}
+use Rattle.calls.specs.Parts.{fromTo, listEnd, onEnd, tableEnds, onEnds, rulesTo, headerAt}
 use Rattle.calls.specs.declared.word.TableWord.{TableWord}
 use Rattle.calls.specs.declared.word.TableWord.the-variants.{Build, Lookup, Audit, Report}
 
@@ -51,7 +50,7 @@ abbrev pub buildSaid : Rules → List ℕ → List ℕ
 buildSaid R T = countSaid (buildOf R T) ++ bytes " table" ++ allSpaced (tableAfter R T)
 
 abbrev pub lookupSaid : Rules → List ℕ → List ℕ → List ℕ
-lookupSaid R T h = lookedSaid (lookupOf R T h)
+lookupSaid R T h = foundSaid (lookupOf R T h)
 
 abbrev pub auditSaid : Rules → List ℕ → List ℕ
 auditSaid R T = verdictSaid (auditOf R T)
@@ -69,7 +68,7 @@ tableSaid Report R T rest = reportSaid R T (getD rest 0 0)
 abbrev pub tabledSaid : TableWord → List ℕ → List ℕ
 tabledSaid word ns =
     onEnds (tableEnds ns (following word))
-    (λ e t. tableSaid word (rulesTo e ns) (between (e + 1) t ns) (between t (t + following word) ns))
+    (λ e t. tableSaid word (rulesTo e ns) (fromTo (e + 1) t ns) (fromTo t (t + following word) ns))
     badSaid
 
 -- ---- prefixes and ranges

@@ -14,7 +14,7 @@ use text::put::put_text;
 ghost use mathlib.Core.Path.{_≡_};
 ghost use Rattle.text.specs.Texts.{bytes};
 ghost use Rattle.text.specs.Puts.{Put};
-ghost use Rattle.calls.specs.Said.{spaced, allSpaced, refusedSaid, countSaid, boundsSaid, matchSaid, pairSaid, lookedSaid, verdictSaid, partSaid};
+ghost use Rattle.calls.specs.Said.{spaced, allSpaced, refusalSaid, countSaid, boundsSaid, matchSaid, pairSaid, foundSaid, verdictSaid, partSaid};
 
 // Puts a blank and a number.
 pub fn put_spaced(n: u64, out: &mut [u8], at: usize) -> usize
@@ -73,7 +73,7 @@ pub fn put_bad(out: &mut [u8], at: usize) -> usize
 
 // Puts a refusal: its number and its place of two numbers.
 pub fn put_refused(x: Refusal, out: &mut [u8], at: usize) -> usize
-    ensures { λ r. ⌜ Put (now (out .entry)) at (refusedSaid x) (now (out .exit)) r ⌝ }
+    ensures { λ r. ⌜ Put (now (out .entry)) at (refusalSaid x) (now (out .exit)) r ⌝ }
 {
     let a = put_text(b"refused", out, at);
     let b = put_spaced(x.number as u64, out, a);
@@ -139,7 +139,7 @@ pub fn put_pair(pair: Pair, out: &mut [u8], at: usize) -> usize
 
 // Puts the first match, or none, and the tests made, or the refusal.
 pub fn put_looked(looked: Looked, out: &mut [u8], at: usize) -> usize
-    ensures { λ r. ⌜ Put (now (out .entry)) at (lookedSaid looked) (now (out .exit)) r ⌝ }
+    ensures { λ r. ⌜ Put (now (out .entry)) at (foundSaid looked) (now (out .exit)) r ⌝ }
 {
     match looked {
         Looked::Rule { rule, tests } => {

@@ -6,7 +6,7 @@ use Prim.Native.Nat.{ℕ, _≤_, _<_, _-_}
 use native.Mathlib.Omega.{arith}
 use borrow.Author.Count.{below-more}
 use lib.ListN.{length, getD}
-use Rattle.calls.proofs.Parts.{narrow-all, narrow-not}
+use Rattle.calls.proofs.Narrowing.{narrow-all, narrow-not}
 use Rattle.calls.proofs.part.all_narrow.Statement.{statement}
 use Rattle.calls.proofs.part.all_narrow.Tie as tie
 

@@ -6,7 +6,7 @@ use Prim.Native.Nat.{_-_}
 use mathlib.Core.Path.{sym, _∙_}
 use native.Mathlib.Omega.{arith}
 use lib.ListN.{length}
-use Rattle.calls.proofs.Parts.{narrow-at, Narrowed, narrowed-none, narrowed-more, narrowed-all}
+use Rattle.calls.proofs.Narrowing.{narrow-at, Narrowed, narrowed-none, narrowed-more, narrowed-all}
 use Rattle.calls.proofs.part.narrow.Statement.{statement}
 use Rattle.calls.proofs.part.narrow.Tie as tie
 

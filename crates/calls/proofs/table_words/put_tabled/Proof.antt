@@ -1,8 +1,8 @@
 -- `calls::table_words::put_tabled` meets its contract: the table is the first part of its room, where its numbers are written.
 -- Assumes nothing.
 use borrow.Author.Needs.{needs}
-use mathlib.Core.Path.{sym, _∙_}
-use Rattle.calls.proofs.Parts.{room-long, room-within, room-count, room-front}
+use mathlib.Core.Path.{sym}
+use Rattle.calls.proofs.Narrowing.{room-enough, room-within, room-count, room-front}
 use Rattle.calls.proofs.table_words.put_tabled.Statement.{statement}
 use Rattle.calls.proofs.table_words.put_tabled.Tie as tie
 
@@ -12,12 +12,12 @@ array-borrow-prefix-table c = search needs
 slice-aggregate-narrow : tie.Need-slice-aggregate-narrow
 slice-aggregate-narrow c =
     let s = c .before .before .before .before .before in
-    room-long (s .args .numbers .now) (s .pre .few)
+    room-enough (s .args .numbers .now) (s .pre .few)
 
 narrow-requires : tie.Need-narrow-requires
 narrow-requires c κs =
     let s = c .before .before .before .before .before in
-    (sym (room-long (s .args .numbers .now) (s .pre .few)), s .pre .narrow)
+    (sym (room-enough (s .args .numbers .now) (s .pre .few)), s .pre .narrow)
 
 array-borrow-prefix-table-2 : tie.Need-array-borrow-prefix-table-2
 array-borrow-prefix-table-2 c = room-within (c .before .narrow .ensures) _
