@@ -5,7 +5,11 @@
 -- Lines: laws of a line read byte by byte.
 -- Names: laws of the names of the calls.
 -- Answers: laws of the answer to a line.
--- Serving: laws of serving a piece of input.
+-- Hearing: that a line heard byte by byte is answered as its words are.
+-- Input: that input in pieces is answered as a whole.
+-- Theorems: the headline statements.
+-- Serving: laws of serving bytes up to a line's end.
+-- Replies: laws of serving line by line, said of the input's bytes.
 pub mod Said
 pub mod Parts
 pub mod Narrowing
@@ -13,4 +17,8 @@ pub mod Words
 pub mod Lines
 pub mod Names
 pub mod Answers
+pub mod Hearing
+pub mod Input
+pub mod Theorems
 pub mod Serving
+pub mod Replies

@@ -1,5 +1,5 @@
 -- Laws of a line of calls read byte by byte (`specs/Lines.antt`).
---     line-ends, line-none, line-within the first LF
+--     line-here, line-past, line-ends, line-none, line-within       the first LF
 --     number-ends, number-takes, name-ends, name-takes      one byte more, way by way
 -- Assumes nothing.
 use Prim.Native.Nat.{ℕ, zero, suc, _≤_, _<_}
@@ -18,6 +18,15 @@ use Rattle.calls.specs.declared.line.Line.{Line}
 use Rattle.calls.specs.Lines.{lineIn, heard, lineOf, heardByte}
 
 -- ---- the first LF
+-- at the first byte, or past it
+pub line-here : (b : ℕ) (bs : List ℕ) → eqb b 10 ≡ true → lineIn (b ∷ bs) ≡ 0
+unfolding lineIn
+line-here b bs e = rw e
+
+pub line-past : (b : ℕ) (bs : List ℕ) → eqb b 10 ≡ false → lineIn (b ∷ bs) ≡ suc (lineIn bs)
+unfolding lineIn
+line-past b bs e = rw e
+
 pub line-ends : (bs : List ℕ) (i : ℕ) → i < length bs → ((k : ℕ) → k < i → getD bs k 0 ≡ 10 → ⊥) → getD bs i 0 ≡ 10 → lineIn bs ≡ i
 unfolding lineIn
 line-ends [] i lt none here = absurd (omega arith)

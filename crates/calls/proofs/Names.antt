@@ -1,13 +1,19 @@
--- Laws of the calls' names (`specs/Names.antt`): what a comparison of bytes answers is `sameBytes`.
+-- Laws of the calls' names (`specs/Names.antt`).
+--     same-bytes-is       what a comparison of bytes answers
+--     name-over           no call's name has more than 11 bytes
 -- Assumes nothing.
-use Prim.Native.Nat.{ℕ}
+use Prim.Native.Nat.{ℕ, _≤_, _<_}
 use mathlib.Core.Bool.{Bool, true, false}
 use mathlib.Core.List.{List, [], _∷_}
-use mathlib.Core.Path.{_≡_, refl, sym, _∙_}
+use mathlib.Core.Path.{_≡_, refl, sym, ap, _∙_}
+use native.Mathlib.Omega.{arith}
 use borrow.Author.Tests.{eq-eqb, eqb-true}
 use lib.Dec.{eqb}
+use lib.ListN.{length}
 use Rattle.ranges.proofs.Numbers.{never, and-left, and-right, and-both}
-use Rattle.calls.specs.Names.{sameBytes}
+use Rattle.text.specs.Texts.{bytes}
+use Rattle.calls.specs.Names.{sameBytes, prefixWord, tableWord, wordOf}
+use Rattle.calls.specs.declared.word.Word.the-variants.{Unknown}
 
 same-bytes-refl : (xs : List ℕ) → sameBytes xs xs ≡ true
 same-bytes-refl [] = refl
@@ -35,3 +41,26 @@ same-bytes-is xs ys {r} told {t} is = go (sameBytes xs ys) r refl refl ∙ is
         let f : sameBytes xs xs ≡ true = same-bytes-refl xs in
         let g : sameBytes xs ys ≡ true = rw (← e) f in
         never (cc)
+
+-- a text of at most 11 bytes is no longer name
+longer-other : (name text : List ℕ) → length text ≤ 11 → 11 < length name → sameBytes name text ≡ false
+longer-other name text short long = go (sameBytes name text) refl
+  where
+    go : (t : Bool) → sameBytes name text ≡ t → sameBytes name text ≡ false
+    go true e = let same : length name ≡ length text = ap length (same-bytes-equal name text e) in absurd (omega arith)
+    go false e = e
+
+pub name-over : (name : List ℕ) → 11 < length name → wordOf name ≡ Unknown
+unfolding wordOf tableWord prefixWord
+name-over name long =
+    rw (
+      longer-other name (bytes "check") (omega arith) long,
+      longer-other name (bytes "scan") (omega arith) long,
+      longer-other name (bytes "independent") (omega arith) long,
+      longer-other name (bytes "build") (omega arith) long,
+      longer-other name (bytes "lookup") (omega arith) long,
+      longer-other name (bytes "audit") (omega arith) long,
+      longer-other name (bytes "report") (omega arith) long,
+      longer-other name (bytes "p2r") (omega arith) long,
+      longer-other name (bytes "r2p") (omega arith) long,
+    )

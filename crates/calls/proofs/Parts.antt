@@ -3,6 +3,7 @@
 --     exact-not, exact-is                       what follows it
 --     tables-none, tables-cut, tables-wide, tables-are     where a list and a table end, way by way
 --     run-told, exact-told, list-told, table-told, tables-told       what an end tells
+--     list-over, tables-over                    too many numbers
 --     tables-asked                              which is what a call asks
 --     eight-is                                  eight numbers by value
 -- Assumes nothing.
@@ -20,6 +21,7 @@ use Rattle.ranges.proofs.Numbers.{never, tab-length, tab-at}
 use Rattle.calls.specs.Parts.{fromTo, runEnd, exactly, listEnd, onEnd, allNarrow, tableEnds, Tabled}
 use Rattle.calls.specs.declared.part.End.{End}
 use Rattle.calls.specs.declared.part.End.the-variants.{At, Missing}
+use Rattle.calls.specs.declared.part.Ends.{Ends}
 use Rattle.calls.specs.declared.part.Ends.the-variants.{At as Both, Missing as Neither}
 
 -- ---- where a run ends
@@ -84,16 +86,26 @@ module _ (ns : List ℕ) (more : ℕ) (end : End) where
       go Missing is told = never (cc)
 
 -- ---- D LIST
--- what the end of a list tells: it stands in the numbers from place 2 on, and exactly so many numbers more follow
+-- what the end of a list tells: it stands in the numbers from place 2 on, is not too long, and exactly so many numbers more follow
 pub record ListTo (ns : List ℕ) (more e : ℕ) : Type 0 where
   pub begun : 2 ≤ e
+  pub few : e ≤ 2 + 16500
   pub follow : length ns ≡ e + more
 
 pub list-told : (ns : List ℕ) (more : ℕ) {e : ℕ} → listEnd ns more ≡ At e → ListTo ns more e
 unfolding listEnd
 list-told ns more told =
     let whole = exact-told ns more (runEnd 16500 ns 1) told in
-    record { begun = run-told 16500 ns 1 (whole .0) .begun; follow = whole .1 }
+    let run = run-told 16500 ns 1 (whole .0) in
+    record { begun = run .begun; few = run .few; follow = whole .1 }
+
+-- more numbers than a list and what follows it may have
+pub list-over : (ns : List ℕ) (more : ℕ) → 16502 + more < length ns → listEnd ns more ≡ Missing
+list-over ns more over = go (listEnd ns more) refl
+  where
+    go : (x : End) → listEnd ns more ≡ x → listEnd ns more ≡ Missing
+    go (At e) is = let list = list-told ns more is in absurd (omega arith)
+    go Missing is = is
 
 -- ---- D LIST TABLE
 -- what the end of a table tells, whose length stands at place e: it is not too long, and exactly so many numbers more follow
@@ -129,10 +141,11 @@ module _ (ns : List ℕ) (more : ℕ) {first : End} (listed : first ≡ runEnd 1
     unfolding tableEnds
     tables-are at narrow = rw (sym listed ∙ at-list, ← ran, sym is ∙ at, narrow)
 
--- what the ends of a list and a table tell: the list stands from place 2 on, the table after its length, and its numbers are of
--- 16 bits
+-- what the ends of a list and a table tell: the list stands from place 2 on and is not too long, the table stands after its length,
+-- and its numbers are of 16 bits
 pub record TableTo (ns : List ℕ) (more e t : ℕ) : Type 0 where
   pub begun : 2 ≤ e
+  pub few : e ≤ 2 + 16500
   pub table : TableAt ns more e t
   pub narrow : allNarrow (fromTo (e + 1) t ns) ≡ true
 
@@ -140,21 +153,21 @@ pub tables-told : (ns : List ℕ) (more : ℕ) {e t : ℕ} → tableEnds ns more
 unfolding tableEnds
 tables-told ns more {e} {t} = go (runEnd 16500 ns 1) refl
   where
-    last : {x y : ℕ} → 2 ≤ x → exactly ns more (runEnd 18500 ns x) ≡ At y → (b : Bool) → allNarrow (fromTo (x + 1) y ns) ≡ b → pick b (Both x y) Neither ≡ Both e t → TableTo ns more e t
-    last {x} {y} begun at true narrow is =
+    last : {x y : ℕ} → RunTo 16500 ns 1 x → exactly ns more (runEnd 18500 ns x) ≡ At y → (b : Bool) → allNarrow (fromTo (x + 1) y ns) ≡ b → pick b (Both x y) Neither ≡ Both e t → TableTo ns more e t
+    last {x} {y} list at true narrow is =
         let same : x ≡ e = cc in
         let same' : y ≡ t = cc in
-        rw (← same, ← same') (record { begun = begun; table = table-told ns more refl refl at; narrow = narrow })
-    last begun at false narrow is = never (cc)
+        rw (← same, ← same') (record { begun = list .begun; few = list .few; table = table-told ns more refl refl at; narrow = narrow })
+    last list at false narrow is = never (cc)
 
-    next : {x : ℕ} → 2 ≤ x → (s : End) → exactly ns more (runEnd 18500 ns x) ≡ s → onEnd s (λ y. pick (allNarrow (fromTo (x + 1) y ns)) (Both x y) Neither) Neither ≡ Both e t → TableTo ns more e t
-    next {x} begun (At y) at is = last begun at (allNarrow (fromTo (x + 1) y ns)) refl is
-    next begun Missing at is = never (cc)
+    next : {x : ℕ} → RunTo 16500 ns 1 x → (s : End) → exactly ns more (runEnd 18500 ns x) ≡ s → onEnd s (λ y. pick (allNarrow (fromTo (x + 1) y ns)) (Both x y) Neither) Neither ≡ Both e t → TableTo ns more e t
+    next {x} list (At y) at is = last list at (allNarrow (fromTo (x + 1) y ns)) refl is
+    next list Missing at is = never (cc)
 
     go : (s : End) → runEnd 16500 ns 1 ≡ s
         → onEnd s (λ x. onEnd (exactly ns more (runEnd 18500 ns x)) (λ y. pick (allNarrow (fromTo (x + 1) y ns)) (Both x y) Neither) Neither) Neither ≡ Both e t
         → TableTo ns more e t
-    go (At x) at is = next (run-told 16500 ns 1 at .begun) (exactly ns more (runEnd 18500 ns x)) refl is
+    go (At x) at is = next (run-told 16500 ns 1 at) (exactly ns more (runEnd 18500 ns x)) refl is
     go Missing at is = never (cc)
 
 -- so the table's numbers and those that follow are as a call asks
@@ -165,6 +178,18 @@ tables-asked {ns} {more} {e} {t} {k} so is =
       narrow = so .narrow;
       follow = simp (length-take, length-drop) (omega (arith, so .table .follow));
     }
+
+-- more numbers than a list, a table and what follows them may have
+pub tables-over : (ns : List ℕ) (more : ℕ) → 35003 + more < length ns → tableEnds ns more ≡ Neither
+tables-over ns more over = go (tableEnds ns more) refl
+  where
+    go : (x : Ends) → tableEnds ns more ≡ x → tableEnds ns more ≡ Neither
+    go (Both e t) is =
+        let told = tables-told ns more is in
+        let list = told .few in
+        let table = told .table in
+        absurd (omega arith)
+    go Neither is = is
 
 -- ---- HEADER
 -- eight numbers, one by one

@@ -19,26 +19,31 @@ use Rattle.calls.proofs.Lines.{line-within}
 
 module _ (s : Heard) (bytes : List ℕ) (k : ℕ) (is : k ≡ lineIn bytes) {h : Heard} (hears : h ≡ fed heardByte s (take k bytes)) where
   -- no line ends in these bytes
-  pub served-within : {out : List ℕ} {at : ℕ} → k ≡ length bytes → Served s bytes out at h k out at
-  served-within {out} {at} all =
+  pub served-within : {out : List ℕ} {at : ℕ} → k ≡ length bytes → length (h .name) ≡ length (s .name) → length (h .numbers) ≡ length (s .numbers)
+      → Served s bytes out at h k out at
+  served-within {out} {at} all name-kept numbers-kept =
       let over : length bytes ≤ lineIn bytes = omega arith in
       record {
         count = rw (le-ltb (lineIn bytes) (length bytes) over) is;
         said = rw (le-ltb (lineIn bytes) (length bytes) over) put-no-byte;
         within = λ e. rw is at hears;
         anew = λ lt. absurd (omega arith);
+        name-kept = name-kept;
+        numbers-kept = numbers-kept;
       }
 
   -- a line ends
   pub served-ended : {out : List ℕ} {at : ℕ} {t : Heard} {after : List ℕ} {end : ℕ} → (k ≡ length bytes → ⊥)
-      → Put out at (answerSaid h ++ (10 ∷ [])) after end → t .line ≡ unheard → Served s bytes out at t (k + 1) after end
-  served-ended {out} {at} {t} {after} {end} not-all put anew =
+      → Put out at (answerSaid h ++ (10 ∷ [])) after end → t .line ≡ unheard → length (t .name) ≡ length (s .name) → length (t .numbers) ≡ length (s .numbers) → Served s bytes out at t (k + 1) after end
+  served-ended {out} {at} {t} {after} {end} not-all put anew name-kept numbers-kept =
       let within : lineIn bytes < length bytes = omega (arith, line-within bytes) in
       record {
         count = rw (lt-ltb (lineIn bytes) (length bytes) within) (ap (λ n. n + 1) is);
         said = rw (lt-ltb (lineIn bytes) (length bytes) within, ← is, ← hears) put;
         within = λ e. absurd (not-all (is ∙ e));
         anew = λ lt. anew;
+        name-kept = name-kept;
+        numbers-kept = numbers-kept;
       }
 
 -- no more bytes are served than there are, and some where there are some
@@ -57,11 +62,15 @@ module _ (bytes : List ℕ) where
       go true e = omega arith
       go false e = let le = ltb-false (lineIn bytes) (length bytes) e in omega arith
 
--- as the caller has it: a part of the bytes from a place on
+-- a part of the bytes from a place on, as it is lent
+pub part-long : (bytes : List ℕ) (from : ℕ) → length (take (length bytes - from) (drop from bytes)) ≡ length bytes - from
+part-long bytes from = simp (length-take, length-drop) (omega arith)
+
+-- what is served of it
 pub served-on : (bytes : List ℕ) (from : ℕ) {next : ℕ} → from < length bytes → next ≡ servedOf (take (length bytes - from) (drop from bytes))
     → (0 < next) × (from + next ≤ length bytes)
 served-on bytes from lt is =
     let part : List ℕ = take (length bytes - from) (drop from bytes) in
-    let size : length part ≡ length bytes - from = simp (length-take, length-drop) (omega arith) in
+    let size : length part ≡ length bytes - from = part-long bytes from in
     let some : 0 < length part = omega arith in
     (omega (arith, served-some part some), omega (arith, served-most part))

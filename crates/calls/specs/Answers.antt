@@ -1,6 +1,6 @@
 -- The answer to a line: what its call answers, or bad where the line is no call.
--- `answerSaid` says it of a line as it has been heard, and contracts cite it; `answerTo` says it of the line's bytes, for a
--- reader. That the two agree is compared by tests/run and not proved.
+-- `answerTo` says it of the line's bytes. `answerSaid` says it of a line as it has been heard, as the code goes, and contracts
+-- cite it; that the two agree is `line-is` of `proofs/Theorems.antt`.
 -- Assumes nothing: these are definitions.
 use Prim.Native.Nat.{ℕ}
 use mathlib.Core.List.{List, [], _∷_}

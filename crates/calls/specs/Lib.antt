@@ -4,4 +4,6 @@ pub mod Words
 pub mod Lines
 pub mod Names
 pub mod Answers
+pub mod Input
 pub mod Serving
+pub mod Replies

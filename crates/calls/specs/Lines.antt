@@ -1,6 +1,6 @@
 -- A line of calls: words parted by single blanks, the first the call's name and the others numbers; LF ends it.
 -- Read byte by byte, as the code goes. `answerTo` of `Answers.antt` speaks of a whole line's bytes instead; that the two agree
--- is compared by tests/run and not proved.
+-- is `line-is` of `proofs/Theorems.antt`.
 -- Assumes nothing: these are definitions.
 use Prim.Native.Nat.{ℕ, suc}
 use mathlib.Core.Bool.{Bool, true, false}

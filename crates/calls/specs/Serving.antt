@@ -29,9 +29,11 @@ abbrev pub saidIn : Heard → List ℕ → List ℕ
 saidIn s bytes = pick (endsIn bytes) (answerSaid (heardIn s bytes) ++ (10 ∷ [])) []
 
 -- s is the line before and t the line after. Where it has ended, a new one begins; the runs that a name and numbers go
--- to may then hold anything
+-- to keep their lengths, and may then hold anything
 pub record Served (s : Heard) (bytes out : List ℕ) (at : ℕ) (t : Heard) (next : ℕ) (after : List ℕ) (end : ℕ) : Type 0 where
   pub count : next ≡ servedOf bytes
   pub said : Put out at (saidIn s bytes) after end
   pub within : lineIn bytes ≡ length bytes → t ≡ heardIn s bytes
   pub anew : lineIn bytes < length bytes → t .line ≡ unheard
+  pub name-kept : length (t .name) ≡ length (s .name)
+  pub numbers-kept : length (t .numbers) ≡ length (s .numbers)

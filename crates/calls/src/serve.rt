@@ -6,8 +6,10 @@ use crate::line::line_in;
 use crate::line::line_start;
 use libc::STDIN_FILENO;
 use libc::STDOUT_FILENO;
+ghost use mathlib.Core.Path.{_≡_};
 ghost use Rattle.calls.specs.Lines.{heard};
 ghost use Rattle.calls.specs.Serving.{Served};
+ghost use Rattle.calls.specs.Replies.{ServedLines, begunLine, ServedLast};
 
 // Where serving has come to: the present line, the next byte to serve, and the next place for an answer.
 pub struct Place {
@@ -47,6 +49,73 @@ fn serve_line(
     }
 }
 
+// Says whether there is room for one more answer after a place: no answer has more than 388,600 bytes.
+fn has_room(out: &[u8], at: usize) -> bool {
+    if out.len() < at {
+        return false;
+    }
+    388600 <= out.len() - at
+}
+
+// Serves bytes line by line, until all are served or there is no more room, and puts the answers from the run's start
+// on. The first line is served in any case.
+fn serve_lines(
+    line: Line,
+    bytes: &[u8],
+    name: &mut [u8],
+    numbers: &mut [u32],
+    out: &mut [u8],
+) -> Place
+    ensures { λ r.
+        ⌜ ServedLines (heard line (now (name .entry)) (now (numbers .entry))) (now (bytes .entry)) (now (out .entry))
+        (heard (r .line) (now (name .exit)) (now (numbers .exit))) (r .next) (now (out .exit)) (r .at) ⌝ }
+{
+    let mut present = line;
+    let mut next = 0;
+    let mut at = 0;
+    while next < bytes.len() {
+        let place = serve_line(present, &bytes[next..], name, numbers, out, at);
+        present = place.line;
+        next += place.next;
+        at = place.at;
+        if !has_room(out, at) {
+            return Place {
+                line: present,
+                next,
+                at,
+            };
+        }
+    }
+    Place {
+        line: present,
+        next,
+        at,
+    }
+}
+
+// Says whether anything has come of a line.
+fn has_begun(line: Line) -> bool
+    ensures { λ r. ⌜ r ≡ begunLine line ⌝ }
+{
+    if line.named {
+        return true;
+    }
+    if 0 < line.length {
+        return true;
+    }
+    false
+}
+
+// Puts the answer to a last line that no LF ends, where anything has come of it.
+fn put_last(line: Line, name: &[u8], numbers: &mut [u32], out: &mut [u8]) -> usize
+    ensures { λ r. ⌜ ServedLast (heard line (now (name .entry)) (now (numbers .entry))) (now (out .entry)) (now (out .exit)) r ⌝ }
+{
+    if !has_begun(line) {
+        return 0;
+    }
+    answer(line, name, numbers, out, 0)
+}
+
 // Writes the first bytes of a run, as many as stand before a place, and answers whether that went well; where it did
 // not, says so on standard error.
 fn flush(out: &[u8], at: usize) -> bool {
@@ -58,26 +127,6 @@ fn flush(out: &[u8], at: usize) -> bool {
         os::fail(b"calls: write");
     }
     is_written
-}
-
-// Where the next answer goes, once there is room for it.
-enum Room {
-    At(usize),
-    Failed,
-}
-
-// Makes room for an answer, which has no more than 388,600 bytes: writes what stands before a place where less than that
-// is left after it.
-fn make_room(out: &[u8], at: usize) -> Room {
-    if at < out.len() {
-        if 388600 <= out.len() - at {
-            return Room::At(at);
-        }
-    }
-    if flush(out, at) {
-        return Room::At(0);
-    }
-    Room::Failed
 }
 
 // What is left after a piece of input: the present line, and whether to go on.
@@ -96,22 +145,20 @@ fn serve_piece(
 ) -> Turn {
     let mut present = line;
     let mut next = 0;
-    let mut at = 0;
     while next < bytes.len() {
-        let place = serve_line(present, &bytes[next..], name, numbers, out, at);
+        let place = serve_lines(present, &bytes[next..], name, numbers, out);
         present = place.line;
         next += place.next;
-        let Room::At(free) = make_room(out, place.at) else {
+        if !flush(out, place.at) {
             return Turn {
                 line: present,
                 going: false,
             };
-        };
-        at = free;
+        }
     }
     Turn {
         line: present,
-        going: flush(out, at),
+        going: true,
     }
 }
 
@@ -138,12 +185,7 @@ fn serve_some(
 
 // Answers a last line that no LF ends, where there is one.
 fn serve_last(line: Line, name: &[u8], numbers: &mut [u32], out: &mut [u8]) {
-    if line.length == 0 {
-        if !line.named {
-            return;
-        }
-    }
-    let at = answer(line, name, numbers, out, 0);
+    let at = put_last(line, name, numbers, out);
     flush(out, at);
 }
 

@@ -4,7 +4,7 @@ use borrow.Author.Needs.{needs}
 use mathlib.Core.Path.{sym}
 use lib.Seq.{length-take-le}
 use borrow.Author.Tests.{not-true, not-false}
-use Rattle.calls.proofs.Answers.{unnamed, ill-read, crowded, lost-name, called}
+use Rattle.calls.proofs.Answers.{unnamed, named-said, ill-read, crowded, lost-name, called}
 use Rattle.calls.proofs.answer.put_answer.Statement.{statement}
 use Rattle.calls.proofs.answer.put_answer.Tie as tie
 
@@ -36,7 +36,8 @@ same-length-3 c = search needs
 returns-2 : tie.Need-returns-2
 returns-2 c =
     let a = c .before .before .before .before .before .before .before .before .before .before .before .before .before .before .before .before .args in
-    rw (ill-read (a .line) (a .name .now) (a .numbers .now) _ _ (c .before .before .before .before .before .before .before .before .row-next .ensures .0) (c .before .before .before .before .before .before .before .before .row-next .ensures .1) (not-false (a .line .named) (c .before .before .before .before .before .before .before .before .before .before .before .if1 .left)) (not-true _ (c .before .before .before .before .if2 .taken))) (c .before .before .put-bad2 .ensures)
+    let ended = c .before .before .before .before .before .before .before .before .row-next in
+    rw (named-said (a .line) (a .name .now) (a .numbers .now) (ended .ensures .0) (ended .ensures .1) (not-false (a .line .named) (c .before .before .before .before .before .before .before .before .before .before .before .if1 .left)), ill-read _ _ (ended .result) _ (not-true (ended .result .good) (c .before .before .before .before .if2 .taken))) (c .before .before .put-bad2 .ensures)
 
 cast-count : tie.Need-cast-count
 cast-count c = search needs
@@ -54,7 +55,8 @@ same-length-5 c = search needs
 returns-3 : tie.Need-returns-3
 returns-3 c =
     let a = c .before .before .before .before .before .before .before .before .before .before .before .before .before .before .before .before .before .before .args in
-    rw (crowded (a .line) (a .name .now) (a .numbers .now) _ _ (c .before .before .before .before .before .before .before .before .before .before .row-next .ensures .0) (c .before .before .before .before .before .before .before .before .before .before .row-next .ensures .1) (not-false (a .line .named) (c .before .before .before .before .before .before .before .before .before .before .before .before .before .if1 .left)) (not-false _ (c .before .before .before .before .before .before .if2 .left)) (c .before .before .before .before .if3 .taken)) (c .before .before .put-bad3 .ensures)
+    let ended = c .before .before .before .before .before .before .before .before .before .before .row-next in
+    rw (named-said (a .line) (a .name .now) (a .numbers .now) (ended .ensures .0) (ended .ensures .1) (not-false (a .line .named) (c .before .before .before .before .before .before .before .before .before .before .before .before .before .if1 .left)), crowded _ _ (ended .result) _ (not-false (ended .result .good) (c .before .before .before .before .before .before .if2 .left)) (c .before .before .before .before .if3 .taken)) (c .before .before .put-bad3 .ensures)
 
 put-bad-requires-4 : tie.Need-put-bad-requires-4
 put-bad-requires-4 c κs = search needs
@@ -69,7 +71,8 @@ same-length-7 c = search needs
 returns-4 : tie.Need-returns-4
 returns-4 c =
     let a = c .before .before .before .before .before .before .before .before .before .before .before .before .before .before .before .before .before .before .before .args in
-    rw (lost-name (a .line) (a .name .now) (a .numbers .now) _ _ (c .before .before .before .before .before .before .before .before .before .before .before .row-next .ensures .0) (c .before .before .before .before .before .before .before .before .before .before .before .row-next .ensures .1) (not-false (a .line .named) (c .before .before .before .before .before .before .before .before .before .before .before .before .before .before .if1 .left)) (not-false _ (c .before .before .before .before .before .before .before .if2 .left)) (c .before .before .before .before .before .if3 .left) (c .before .before .before .before .if4 .taken)) (c .before .before .put-bad4 .ensures)
+    let ended = c .before .before .before .before .before .before .before .before .before .before .before .row-next in
+    rw (named-said (a .line) (a .name .now) (a .numbers .now) (ended .ensures .0) (ended .ensures .1) (not-false (a .line .named) (c .before .before .before .before .before .before .before .before .before .before .before .before .before .before .if1 .left)), lost-name _ _ (ended .result) _ (not-false (ended .result .good) (c .before .before .before .before .before .before .before .if2 .left)) (c .before .before .before .before .before .if3 .left) (c .before .before .before .before .if4 .taken)) (c .before .before .put-bad4 .ensures)
 
 slice-aggregate-word-of : tie.Need-slice-aggregate-word-of
 slice-aggregate-word-of c = sym (length-take-le _ _ (c .before .if4 .left))
@@ -96,7 +99,8 @@ same-length-9 c = search needs
 returns-5 : tie.Need-returns-5
 returns-5 c =
     let a = c .before .before .before .before .before .before .before .before .before .before .before .before .before .before .before .before .before .before .before .before .before .before .before .before .args in
-    rw (called (a .line) (a .name .now) (a .numbers .now) _ _ (c .before .before .before .before .before .before .before .before .before .before .before .before .before .before .before .before .row-next .ensures .0) (c .before .before .before .before .before .before .before .before .before .before .before .before .before .before .before .before .row-next .ensures .1) (not-false (a .line .named) (c .before .before .before .before .before .before .before .before .before .before .before .before .before .before .before .before .before .before .before .if1 .left)) (not-false _ (c .before .before .before .before .before .before .before .before .before .before .before .before .if2 .left)) (c .before .before .before .before .before .before .before .before .before .before .if3 .left) (c .before .before .before .before .before .before .before .before .before .if4 .left), ← c .before .before .before .before .before .before .before .word-of .ensures) (c .before .before .before .before .put-word .ensures)
+    let ended = c .before .before .before .before .before .before .before .before .before .before .before .before .before .before .before .before .row-next in
+    rw (named-said (a .line) (a .name .now) (a .numbers .now) (ended .ensures .0) (ended .ensures .1) (not-false (a .line .named) (c .before .before .before .before .before .before .before .before .before .before .before .before .before .before .before .before .before .before .before .if1 .left)), called _ _ (ended .result) _ (not-false (ended .result .good) (c .before .before .before .before .before .before .before .before .before .before .before .before .if2 .left)) (c .before .before .before .before .before .before .before .before .before .before .if3 .left) (c .before .before .before .before .before .before .before .before .before .if4 .left), ← c .before .before .before .before .before .before .before .word-of .ensures) (c .before .before .before .before .put-word .ensures)
 
 pub put-answer-spec : {M : Type 1} → statement M
 put-answer-spec =

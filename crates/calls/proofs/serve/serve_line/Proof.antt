@@ -1,7 +1,7 @@
 -- `calls::serve::serve_line` meets its contract: each way out is the law of its case.
 -- Assumes nothing.
 use borrow.Author.Needs.{needs}
-use mathlib.Core.Path.{sym}
+use mathlib.Core.Path.{sym, _∙_}
 use native.Mathlib.Omega.{arith}
 use lib.ListN.{length}
 use Prim.Native.Nat.{_≤_}
@@ -34,7 +34,8 @@ same-length-2 c = search needs
 returns : tie.Need-returns
 returns c =
     let a = c .before .before .before .before .before .before .before .before .before .before .before .before .before .before .args in
-    served-within (heard (a .line) (a .name .now) (a .numbers .now)) (a .bytes .now) _ (c .before .before .before .before .before .before .before .before .before .line-in .ensures) (c .before .before .before .before .before .hear .ensures) (c .if1 .taken)
+    let heard-now = c .before .before .before .before .before .hear in
+    served-within (heard (a .line) (a .name .now) (a .numbers .now)) (a .bytes .now) _ (c .before .before .before .before .before .before .before .before .before .line-in .ensures) (heard-now .ensures) (c .if1 .taken) (heard-now .kept .1 .1 .0) (heard-now .kept .1 .1 .1 .0)
 
 answer-requires : tie.Need-answer-requires
 answer-requires c κs = search needs
@@ -58,7 +59,9 @@ same-length-5 c = search needs
 returns-2 : tie.Need-returns-2
 returns-2 c =
     let a = c .before .before .before .before .before .before .before .before .before .before .before .before .before .before .before .before .before .before .before .before .before .before .before .args in
-    served-ended (heard (a .line) (a .name .now) (a .numbers .now)) (a .bytes .now) _ (c .before .before .before .before .before .before .before .before .before .before .before .before .before .before .before .before .before .before .line-in .ensures) (c .before .before .before .before .before .before .before .before .before .before .before .before .before .before .hear .ensures) (c .before .before .before .before .before .before .before .before .before .if1 .left) (c .before .before .before .before .before .answer .ensures) (c .line-start .ensures)
+    let heard-now = c .before .before .before .before .before .before .before .before .before .before .before .before .before .before .hear in
+    let said = c .before .before .before .before .before .answer in
+    served-ended (heard (a .line) (a .name .now) (a .numbers .now)) (a .bytes .now) _ (c .before .before .before .before .before .before .before .before .before .before .before .before .before .before .before .before .before .before .line-in .ensures) (heard-now .ensures) (c .before .before .before .before .before .before .before .before .before .if1 .left) (said .ensures) (c .line-start .ensures) (heard-now .kept .1 .1 .0) (said .kept .1 .1 .0 ∙ heard-now .kept .1 .1 .1 .0)
 
 pub serve-line-spec : {M : Type 1} → statement M
 serve-line-spec =

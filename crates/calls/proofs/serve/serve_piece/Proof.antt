@@ -6,78 +6,91 @@ use Prim.Native.Nat.{_≤_, _-_}
 use mathlib.Core.Path.{_≡_, refl, _∙_}
 use native.Mathlib.Omega.{arith}
 use lib.ListN.{length}
-use Rattle.calls.proofs.Serving.{served-on}
+use Rattle.calls.proofs.Serving.{part-long}
 use Rattle.calls.proofs.serve.serve_piece.Statement.{statement}
 use Rattle.calls.proofs.serve.serve_piece.Tie as tie
 
 abbrev Inv-loop : tie.InvT-loop
-Inv-loop bytes name₀ numbers₀ out₀ present₀ next₀ at₀ name numbers out present next at = (next ≤ length bytes) × (length name ≡ length name₀) × (length numbers ≡ length numbers₀) × (length out ≡ length out₀)
+Inv-loop bytes name₀ numbers₀ out₀ present₀ next₀ name numbers out present next = (next ≤ length bytes) × (length name ≡ length name₀) × (length numbers ≡ length numbers₀) × (length out ≡ length out₀)
 
 abbrev μ-loop : tie.MeasureT-loop
-μ-loop bytes name₀ numbers₀ out₀ present₀ next₀ at₀ name numbers out present next at = length bytes - next
+μ-loop bytes name₀ numbers₀ out₀ present₀ next₀ name numbers out present next = length bytes - next
 
 loop-holds : tie.Need-loop-holds Inv-loop μ-loop
 loop-holds c = (search needs, refl, refl, refl)
 
-sub-serve-line : tie.Need-sub-serve-line Inv-loop μ-loop
-sub-serve-line c = search needs
+sub-serve-lines : tie.Need-sub-serve-lines Inv-loop μ-loop
+sub-serve-lines c = search needs
 
-part-serve-line-start : tie.Need-part-serve-line-start Inv-loop μ-loop
-part-serve-line-start c = search needs
+part-serve-lines-start : tie.Need-part-serve-lines-start Inv-loop μ-loop
+part-serve-lines-start c = search needs
 
-part-serve-line-end : tie.Need-part-serve-line-end Inv-loop μ-loop
-part-serve-line-end c = search needs
+part-serve-lines-end : tie.Need-part-serve-lines-end Inv-loop μ-loop
+part-serve-lines-end c = search needs
 
-serve-line-requires : tie.Need-serve-line-requires Inv-loop μ-loop
-serve-line-requires c κs = search needs
+serve-lines-requires : tie.Need-serve-lines-requires Inv-loop μ-loop
+serve-lines-requires c κs = search needs
 
 add-next : tie.Need-add-next Inv-loop μ-loop
 add-next c =
-    let s = served-on (c .before .before .before .before .before .before .before .before .before .before .before .before .before .before .before .before .before .before .before .args .bytes .now) (c .before .before .before .before .before .before .before .before .before .before .before .before .before .before .loop .next) (c .before .before .before .before .before .before .before .before .before .before .before .before .before .loop-test .taken) (c .before .before .before .before .before .before .before .before .serve-line .ensures .count) in
-    omega (arith, c .before .before .before .before .before .before .before .before .before .before .before .before .before .before .before .before .before .before .before .good .1 .0 .0)
+    let served = c .before .before .before .before .before .before .before .before in
+    let test = served .before .before .before .before .before in
+    let bytes = test .before .before .before .before .before .before .args .bytes .now in
+    let loop = test .before .loop in
+    let size = part-long bytes (loop .next) in
+    let taken = served .serve-lines .ensures in
+    let some = taken .some (omega arith) in
+    omega (arith, test .before .before .before .before .before .before .good .1 .0 .0)
 
-make-room-requires : tie.Need-make-room-requires Inv-loop μ-loop
-make-room-requires c κs = search needs
-
-enum-known-free : tie.Need-enum-known-free Inv-loop μ-loop
-enum-known-free c = search needs
-
-enum-told : tie.Need-enum-told Inv-loop μ-loop
-enum-told c = search needs
+flush-requires : tie.Need-flush-requires Inv-loop μ-loop
+flush-requires c κs = search needs
 
 same-length : tie.Need-same-length Inv-loop μ-loop
-same-length c = c .before .before .before .before .before .before .before .before .before .before .before .before .serve-line .kept .1 .1 .0 ∙ c .before .before .before .before .before .before .before .before .before .before .before .before .before .before .before .before .before .before .loop .inv .1
+same-length c = search needs
 
 same-length-2 : tie.Need-same-length-2 Inv-loop μ-loop
-same-length-2 c = c .before .before .before .before .before .before .before .before .before .before .before .before .serve-line .kept .1 .1 .1 .0 ∙ c .before .before .before .before .before .before .before .before .before .before .before .before .before .before .before .before .before .before .loop .inv .2
+same-length-2 c = search needs
 
 same-length-3 : tie.Need-same-length-3 Inv-loop μ-loop
-same-length-3 c = c .before .before .before .before .before .before .before .before .before .before .before .before .serve-line .kept .1 .1 .1 .1 .0 ∙ c .before .before .before .before .before .before .before .before .before .before .before .before .before .before .before .before .before .before .loop .inv .3
+same-length-3 c = search needs
 
 returns : tie.Need-returns Inv-loop μ-loop
 returns c = search needs
 
 loop-less : tie.Need-loop-less Inv-loop μ-loop
 loop-less c =
-    let s = served-on (c .before .before .before .before .before .before .before .before .before .before .before .before .before .before .before .before .before .before .before .before .before .before .before .before .args .bytes .now) (c .before .before .before .before .before .before .before .before .before .before .before .before .before .before .before .before .before .before .before .loop .next) (c .before .before .before .before .before .before .before .before .before .before .before .before .before .before .before .before .before .before .loop-test .taken) (c .before .before .before .before .before .before .before .before .before .before .before .before .before .serve-line .ensures .count) in
+    let served = c .before .before .before .before .before .before .before .before .before .before .before in
+    let test = served .before .before .before .before .before in
+    let bytes = test .before .before .before .before .before .before .args .bytes .now in
+    let loop = test .before .loop in
+    let size = part-long bytes (loop .next) in
+    let taken = served .serve-lines .ensures in
+    let some = taken .some (omega arith) in
     omega arith
 
 loop-again : tie.Need-loop-again Inv-loop μ-loop
 loop-again c =
-    let s = served-on (c .before .before .before .before .before .before .before .before .before .before .before .before .before .before .before .before .before .before .before .before .before .before .before .before .args .bytes .now) (c .before .before .before .before .before .before .before .before .before .before .before .before .before .before .before .before .before .before .before .loop .next) (c .before .before .before .before .before .before .before .before .before .before .before .before .before .before .before .before .before .before .loop-test .taken) (c .before .before .before .before .before .before .before .before .before .before .before .before .before .serve-line .ensures .count) in
-    (s .1, c .before .before .before .before .before .before .before .before .before .before .before .before .before .serve-line .kept .1 .1 .0 ∙ c .before .before .before .before .before .before .before .before .before .before .before .before .before .before .before .before .before .before .before .loop .inv .1, c .before .before .before .before .before .before .before .before .before .before .before .before .before .serve-line .kept .1 .1 .1 .0 ∙ c .before .before .before .before .before .before .before .before .before .before .before .before .before .before .before .before .before .before .before .loop .inv .2, c .before .before .before .before .before .before .before .before .before .before .before .before .before .serve-line .kept .1 .1 .1 .1 .0 ∙ c .before .before .before .before .before .before .before .before .before .before .before .before .before .before .before .before .before .before .before .loop .inv .3)
-
-flush-requires : tie.Need-flush-requires Inv-loop μ-loop
-flush-requires c κs = search needs
+    let served = c .before .before .before .before .before .before .before .before .before .before .before in
+    let test = served .before .before .before .before .before in
+    let bytes = test .before .before .before .before .before .before .args .bytes .now in
+    let loop = test .before .loop in
+    let size = part-long bytes (loop .next) in
+    let taken = served .serve-lines .ensures in
+    let some = taken .some (omega arith) in (
+      omega arith,
+      served .serve-lines .kept .1 .1 .0 ∙ loop .inv .1,
+      served .serve-lines .kept .1 .1 .1 .0 ∙ loop .inv .2,
+      served .serve-lines .kept .1 .1 .1 .1 .0 ∙ loop .inv .3,
+    )
 
 same-length-4 : tie.Need-same-length-4 Inv-loop μ-loop
-same-length-4 c = c .before .before .before .loop .inv .1
+same-length-4 c = search needs
 
 same-length-5 : tie.Need-same-length-5 Inv-loop μ-loop
-same-length-5 c = c .before .before .before .loop .inv .2
+same-length-5 c = search needs
 
 same-length-6 : tie.Need-same-length-6 Inv-loop μ-loop
-same-length-6 c = c .before .before .before .loop .inv .3
+same-length-6 c = search needs
 
 returns-2 : tie.Need-returns-2 Inv-loop μ-loop
 returns-2 c = search needs
@@ -89,21 +102,18 @@ serve-piece-spec =
     Inv-loop
     μ-loop
     loop-holds
-    sub-serve-line
-    part-serve-line-start
-    part-serve-line-end
-    serve-line-requires
+    sub-serve-lines
+    part-serve-lines-start
+    part-serve-lines-end
+    serve-lines-requires
     add-next
-    make-room-requires
-    enum-known-free
-    enum-told
+    flush-requires
     same-length
     same-length-2
     same-length-3
     returns
     loop-less
     loop-again
-    flush-requires
     same-length-4
     same-length-5
     same-length-6

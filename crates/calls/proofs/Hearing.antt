@@ -1,0 +1,196 @@
+-- A line's bytes, heard one by one (`specs/Lines.antt`), are answered as its words are (`answerTo` of `specs/Answers.antt`). The
+-- bytes of the first word go to the name's run until a blank ends it. From then on they are the bytes of a line of numbers parted
+-- by blanks, which come to its cells (`row-is` of the crate text). A name that its run cuts short is too long for any call, and
+-- numbers that have no place in theirs are too many.
+--     name-heard          the answer to a line by its words, the first going on in the name's run
+--     words-answered      which is the answer to its words, in runs as the program has them
+-- Assumes nothing.
+use Prim.Native.Nat.{ℕ, suc, _+_, _≤_, _<_}
+use mathlib.Core.Bool.{Bool, true, false}
+use mathlib.Core.List.{List, [], _∷_}
+use mathlib.Core.Path.{_≡_, refl, sym, ap, _∙_}
+use native.Mathlib.Omega.{arith}
+use borrow.Author.Tests.{leb-true, leb-false}
+use lib.Dec.{leb, eqb}
+use lib.ListN.{length, set, take, drop}
+use lib.Seq.{sets, sets-eq, length-sets, take-at, length-take-le}
+use Rattle.ranges.specs.Numbers.{pick}
+use Rattle.text.specs.Cells.{fed}
+use Rattle.text.specs.Puts.{Put, placeAfter}
+use Rattle.text.specs.Rows.{fresh, onto, cellsIn, allNumbers, numbersOf, manyMore, Reading, begin, ended, within, readByte, readCells}
+use Rattle.text.proofs.Puts.{put-then}
+use Rattle.text.proofs.Rows.{row-is}
+use Rattle.text.proofs.Counted.{cells-good, cells-count, cells-run, cells-long, many-few, many-large}
+use Rattle.calls.specs.Lines.{Heard, heard, lineOf, numberEnds, numberTakes, nameEnds, nameTakes, heardByte}
+use Rattle.calls.specs.Names.{wordOf}
+use Rattle.calls.specs.Words.{badSaid}
+use Rattle.calls.specs.Answers.{wordSaid, wordsSaid, namedSaid, answerSaid}
+use Rattle.calls.proofs.Names.{name-over}
+use Rattle.calls.proofs.Answers.{unnamed, ill-read, crowded, called, call-over}
+
+-- ---- the numbers
+-- a line whose name has ended at place k of its run, with its numbers as far as they have been read
+abbrev numbered : ℕ → List ℕ → Reading → Heard
+numbered k name r = heard (lineOf true k (r .row)) name (r .run)
+
+number-reads : (k : ℕ) (name : List ℕ) (r : Reading) (b : ℕ) → heardByte (numbered k name r) b ≡ numbered k name (readByte 32 0 r b)
+unfolding heardByte readByte
+number-reads k name r b = go (eqb b 32)
+  where
+    go : (t : Bool) → pick t (numberEnds (numbered k name r)) (numberTakes (numbered k name r) b) ≡ numbered k name (pick t (ended 0 r) (within r b))
+    go true = refl
+    go false = refl
+
+numbers-read : (l : List ℕ) (k : ℕ) (name : List ℕ) (r : Reading) → fed heardByte (numbered k name r) l ≡ numbered k name (fed (readByte 32 0) r l)
+numbers-read [] k name r = refl
+numbers-read (b ∷ l) k name r = ap (λ s. fed heardByte s l) (number-reads k name r b) ∙ numbers-read l k name (readByte 32 0 r b)
+
+-- the answer by what the numbers' cells come to
+abbrev cellsSaid : ℕ → List ℕ → Reading → List ℕ
+cellsSaid k name e = namedSaid k name (e .row) (e .run)
+
+numbers-said : (l : List ℕ) (k : ℕ) (name numbers : List ℕ)
+    → answerSaid (fed heardByte (numbered k name (begin numbers)) l) ≡ cellsSaid k name (readCells 0 (begin numbers) (cellsIn 32 l))
+unfolding answerSaid
+numbers-said l k name numbers = ap answerSaid (numbers-read l k name (begin numbers)) ∙ ap (cellsSaid k name) (row-is 32 0 numbers l)
+
+-- ---- the name
+-- the answer by the words, where the first goes on from place k of the name's run
+abbrev wordsOn : ℕ → List ℕ → List ℕ → List (List ℕ) → List ℕ
+wordsOn k name numbers [] = badSaid
+wordsOn k name numbers (w ∷ []) = badSaid
+wordsOn k name numbers (w ∷ c ∷ cs) = cellsSaid (placeAfter (length name) k (length w)) (sets name k w) (readCells 0 (begin numbers) (c ∷ cs))
+
+-- a line has a word at least
+cells-some : (by : ℕ) (l : List ℕ) → 0 < length (cellsIn by l)
+cells-some by [] = omega arith
+cells-some by (b ∷ l) = go (eqb b by) (cellsIn by l)
+  where
+    go : (t : Bool) (cs : List (List ℕ)) → 0 < length (pick t ([] ∷ cs) (onto b cs))
+    go true cs = omega arith
+    go false [] = omega arith
+    go false (c ∷ cs) = omega arith
+
+-- a blank ends the name
+name-ended : (k : ℕ) (name numbers : List ℕ) (cs : List (List ℕ)) → 0 < length cs
+    → cellsSaid k name (readCells 0 (begin numbers) cs) ≡ wordsOn k name numbers ([] ∷ cs)
+name-ended k name numbers [] some = absurd (omega arith)
+name-ended k name numbers (c ∷ cs) some =
+    let same : k ≡ placeAfter (length name) k 0 = omega arith in
+    ap (λ j. cellsSaid j name (readCells 0 (begin numbers) (c ∷ cs))) same
+
+-- the name takes a byte
+name-taken : (k b : ℕ) (name numbers : List ℕ) (cs : List (List ℕ))
+    → wordsOn (placeAfter (length name) k 1) (set name k b) numbers cs ≡ wordsOn k name numbers (onto b cs)
+name-taken k b name numbers [] = refl
+name-taken k b name numbers (w ∷ []) = refl
+name-taken k b name numbers (w ∷ c ∷ cs) =
+    let first : Put name k (b ∷ []) (set name k b) (placeAfter (length name) k 1) = record { place = refl; bytes = refl } in
+    let rest : Put (set name k b) (placeAfter (length name) k 1) w (sets (set name k b) (placeAfter (length name) k 1) w) (placeAfter (length (set name k b)) (placeAfter (length name) k 1) (length w)) = record { place = refl; bytes = refl } in
+    let put = put-then first rest in
+    ap (λ j. cellsSaid j (sets (set name k b) (placeAfter (length name) k 1) w) (readCells 0 (begin numbers) (c ∷ cs))) (put .place)
+    ∙ ap (λ n. cellsSaid (placeAfter (length name) k (suc (length w))) n (readCells 0 (begin numbers) (c ∷ cs))) (put .bytes)
+
+pub name-heard : (l : List ℕ) (k : ℕ) (name numbers : List ℕ)
+    → answerSaid (fed heardByte (heard (lineOf false k fresh) name numbers) l) ≡ wordsOn k name numbers (cellsIn 32 l)
+unfolding heardByte
+name-heard [] k name numbers = unnamed (lineOf false k fresh) name numbers refl
+name-heard (b ∷ l) k name numbers = go (eqb b 32) (name-heard l)
+  where
+    go : (t : Bool)
+        → ((j : ℕ) (n ns : List ℕ) → answerSaid (fed heardByte (heard (lineOf false j fresh) n ns) l) ≡ wordsOn j n ns (cellsIn 32 l))
+        → answerSaid (fed heardByte (pick t (nameEnds (heard (lineOf false k fresh) name numbers)) (nameTakes (heard (lineOf false k fresh) name numbers) b)) l)
+        ≡ wordsOn k name numbers (pick t ([] ∷ cellsIn 32 l) (onto b (cellsIn 32 l)))
+    go true follow = numbers-said l k name numbers ∙ name-ended k name numbers (cellsIn 32 l) (cells-some 32 l)
+    go false follow = follow (placeAfter (length name) k 1) (set name k b) numbers ∙ name-taken k b name numbers (cellsIn 32 l)
+
+-- ---- the words
+numbers-length : (cs : List (List ℕ)) → length (numbersOf cs) ≡ length cs
+numbers-length [] = refl
+numbers-length (c ∷ cs) = ap suc (numbers-length cs)
+
+-- the front of a run, where so many values were put
+front-put : (run vs : List ℕ) (k : ℕ) → length vs ≡ k → k ≤ length run → take k (sets run 0 vs) ≡ vs
+front-put run vs k is fits = ap (take k) (sets-eq vs run 0 (omega arith)) ∙ take-at vs (drop (0 + length vs) run) k is
+
+-- runs as the program has them, whatever they hold at first
+module _ (name numbers : List ℕ) (long : length name ≡ 16) (many : length numbers ≡ 35100) where
+  -- a name that is cut short asks for no call, nor does the whole name
+  name-asks : (w : List ℕ) → wordOf (take (placeAfter (length name) 0 (length w)) (sets name 0 w)) ≡ wordOf w
+  name-asks w = go (leb (length w) 16) refl
+    where
+      go : (t : Bool) → leb (length w) 16 ≡ t → wordOf (take (placeAfter (length name) 0 (length w)) (sets name 0 w)) ≡ wordOf w
+      go true e =
+          let few = leb-true (length w) 16 e in
+          let whole : placeAfter (length name) 0 (length w) ≡ length w = omega arith in
+          ap (λ j. wordOf (take j (sets name 0 w))) whole ∙ ap wordOf (front-put name w (length w) refl (omega arith))
+      go false e =
+          let over = leb-false (length w) 16 e in
+          let cut : placeAfter (length name) 0 (length w) ≡ 16 = omega arith in
+          let room : 16 ≤ length (sets name 0 w) = omega (arith, length-sets name 0 w) in
+          let size : length (take 16 (sets name 0 w)) ≡ 16 = length-take-le 16 (sets name 0 w) room in
+          ap (λ j. wordOf (take j (sets name 0 w))) cut ∙ name-over (take 16 (sets name 0 w)) (omega arith) ∙ sym (name-over w (omega arith))
+
+  -- what the cells come to
+  abbrev come : List (List ℕ) → Reading
+  come cs = readCells 0 (begin numbers) cs
+
+  come-long : (cs : List (List ℕ)) → length (come cs .run) ≡ 35100
+  come-long cs = cells-long cs 0 (begin numbers) ∙ many
+
+  come-few : (cs : List (List ℕ)) → length cs ≤ 35100 → come cs .row .cells ≡ length cs
+  come-few cs few =
+      let exact : manyMore 0 cs ≡ 0 + length cs = many-few cs 0 (omega arith) in
+      omega (arith, cells-count 0 (begin numbers) cs)
+
+  come-over : (cs : List (List ℕ)) → 35100 < length cs → 35100 < come cs .row .cells
+  come-over cs over = go (leb (length cs) 65536) refl
+    where
+      count : come cs .row .cells ≡ manyMore 0 cs
+      count = cells-count 0 (begin numbers) cs
+
+      go : (t : Bool) → leb (length cs) 65536 ≡ t → 35100 < come cs .row .cells
+      go true e =
+          let few = leb-true (length cs) 65536 e in
+          let same : manyMore 0 cs ≡ 0 + length cs = many-few cs 0 (omega arith) in
+          omega (arith, count)
+      go false e =
+          let more = leb-false (length cs) 65536 e in
+          let large : 65535 ≤ manyMore 0 cs = many-large cs 0 (omega arith) (omega arith) in
+          omega (arith, count)
+
+  -- a name and its cells, each way
+  cells-answered : (w : List ℕ) (cs : List (List ℕ))
+      → cellsSaid (placeAfter (length name) 0 (length w)) (sets name 0 w) (come cs) ≡ pick (allNumbers cs) (wordSaid (wordOf w) (numbersOf cs)) badSaid
+  cells-answered w cs = go (allNumbers cs) (leb (length cs) 35100) refl refl
+    where
+      k : ℕ
+      k = placeAfter (length name) 0 (length w)
+
+      go : (s t : Bool) → allNumbers cs ≡ s → leb (length cs) 35100 ≡ t
+          → cellsSaid k (sets name 0 w) (come cs) ≡ pick s (wordSaid (wordOf w) (numbersOf cs)) badSaid
+      go false t p q = ill-read k (sets name 0 w) (come cs .row) (come cs .run) (cells-good 0 (begin numbers) cs ∙ p)
+      go true false p q =
+          let over = leb-false (length cs) 35100 q in
+          let good = cells-good 0 (begin numbers) cs ∙ p in
+          let past : length (come cs .run) < come cs .row .cells = omega (arith, come-long cs, come-over cs over) in
+          let past' : 35100 < length (numbersOf cs) = omega (arith, numbers-length cs) in
+          crowded k (sets name 0 w) (come cs .row) (come cs .run) good past ∙ sym (call-over (wordOf w) (numbersOf cs) past')
+      go true true p q =
+          let few = leb-true (length cs) 35100 q in
+          let good = cells-good 0 (begin numbers) cs ∙ p in
+          let count = come-few cs few in
+          let fits : come cs .row .cells ≤ length (come cs .run) = omega (arith, come-long cs) in
+          let within : k ≤ length (sets name 0 w) = omega (arith, length-sets name 0 w) in
+          let run : come cs .run ≡ sets numbers 0 (numbersOf cs) = cells-run cs 0 (begin numbers) p (omega arith) in
+          let front : take (length cs) (sets numbers 0 (numbersOf cs)) ≡ numbersOf cs = front-put numbers (numbersOf cs) (length cs) (numbers-length cs) (omega arith) in
+          called k (sets name 0 w) (come cs .row) (come cs .run) good fits within
+          ∙ ap (λ v. wordSaid v (take (come cs .row .cells) (come cs .run))) (name-asks w)
+          ∙ ap (λ j. wordSaid (wordOf w) (take j (come cs .run))) count
+          ∙ ap (λ r. wordSaid (wordOf w) (take (length cs) r)) run
+          ∙ ap (wordSaid (wordOf w)) front
+
+  pub words-answered : (ws : List (List ℕ)) → wordsOn 0 name numbers ws ≡ wordsSaid ws
+  words-answered [] = refl
+  words-answered (w ∷ []) = refl
+  words-answered (w ∷ c ∷ cs) = cells-answered w (c ∷ cs)
