@@ -20,13 +20,14 @@
 // A line may be of any length and may come in pieces: it is heard byte by byte (`line`), its numbers go to a lent run,
 // and once it has ended its word decides what is made of them (`word`, `answer`). A word is one small function
 // (`list_words`, `table_words`, `prefix_words`): it finds the parts of the line's numbers by their places (`part`), calls
-// the library, and puts the answer's text (`say`) into the run of bytes that is written out. Only `read` and `write` are
-// the system's; all else is proved on slices.
+// the library, and puts the answer's text (`say`) into the run of bytes that is written out. So input comes to answers
+// on slices, and that is proved (`reply`); only `read` and `write` are the system's (`serve`).
 mod answer;
 mod line;
 mod list_words;
 mod part;
 mod prefix_words;
+mod reply;
 mod say;
 mod serve;
 mod table_words;

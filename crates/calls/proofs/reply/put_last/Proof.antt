@@ -1,11 +1,11 @@
--- `calls::serve::put_last` meets its contract: nothing has come of the last line, or it is answered.
+-- `calls::reply::put_last` meets its contract: nothing has come of the last line, or it is answered.
 -- Assumes nothing.
 use borrow.Author.Needs.{needs}
 use borrow.Author.Tests.{not-true, not-false}
 use mathlib.Core.Path.{sym, _∙_}
 use Rattle.calls.proofs.Replies.{last-none, last-some}
-use Rattle.calls.proofs.serve.put_last.Statement.{statement}
-use Rattle.calls.proofs.serve.put_last.Tie as tie
+use Rattle.calls.proofs.reply.put_last.Statement.{statement}
+use Rattle.calls.proofs.reply.put_last.Tie as tie
 
 has-begun-requires : tie.Need-has-begun-requires
 has-begun-requires c κs = search needs

@@ -1,4 +1,4 @@
--- `calls::serve::serve_lines` meets its contract. At the loop's head the first `next` bytes are replied to; the measure is what is left
+-- `calls::reply::serve_lines` meets its contract. At the loop's head the first `next` bytes are replied to; the measure is what is left
 -- of them.
 -- Assumes nothing.
 use borrow.Author.Needs.{needs}
@@ -10,8 +10,8 @@ use Rattle.calls.specs.Lines.{heard}
 use Rattle.calls.specs.Replies.{Replied}
 use Rattle.calls.proofs.Serving.{served-on}
 use Rattle.calls.proofs.Replies.{replied-none, replied-more}
-use Rattle.calls.proofs.serve.serve_lines.Statement.{statement}
-use Rattle.calls.proofs.serve.serve_lines.Tie as tie
+use Rattle.calls.proofs.reply.serve_lines.Statement.{statement}
+use Rattle.calls.proofs.reply.serve_lines.Tie as tie
 
 abbrev Inv-loop : tie.InvT-loop
 Inv-loop bytes name₀ numbers₀ out₀ present₀ next₀ at₀ name numbers out present next at =

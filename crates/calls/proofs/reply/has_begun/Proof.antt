@@ -1,8 +1,8 @@
--- `calls::serve::has_begun` meets its contract: at each way out the tests that led there decide the definition.
+-- `calls::reply::has_begun` meets its contract: at each way out the tests that led there decide the definition.
 -- Assumes nothing.
 use borrow.Author.Tests.{lt-ltb, le-ltb}
-use Rattle.calls.proofs.serve.has_begun.Statement.{statement}
-use Rattle.calls.proofs.serve.has_begun.Tie as tie
+use Rattle.calls.proofs.reply.has_begun.Statement.{statement}
+use Rattle.calls.proofs.reply.has_begun.Tie as tie
 
 returns : tie.Need-returns
 returns c = rw (c .if1 .taken)

@@ -1,4 +1,4 @@
--- `calls::serve::serve_line` meets its contract: each way out is the law of its case.
+-- `calls::reply::serve_line` meets its contract: each way out is the law of its case.
 -- Assumes nothing.
 use borrow.Author.Needs.{needs}
 use mathlib.Core.Path.{sym, _∙_}
@@ -9,8 +9,8 @@ use lib.Seq.{length-take-le}
 use Rattle.calls.specs.Lines.{heard}
 use Rattle.calls.proofs.Lines.{line-within}
 use Rattle.calls.proofs.Serving.{served-within, served-ended}
-use Rattle.calls.proofs.serve.serve_line.Statement.{statement}
-use Rattle.calls.proofs.serve.serve_line.Tie as tie
+use Rattle.calls.proofs.reply.serve_line.Statement.{statement}
+use Rattle.calls.proofs.reply.serve_line.Tie as tie
 
 line-in-requires : tie.Need-line-in-requires
 line-in-requires c κs = search needs
