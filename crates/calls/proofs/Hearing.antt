@@ -17,7 +17,7 @@ use lib.Seq.{sets, sets-eq, length-sets, take-at, length-take-le}
 use Rattle.ranges.specs.Numbers.{pick}
 use Rattle.text.specs.Cells.{fed}
 use Rattle.text.specs.Puts.{Put, placeAfter}
-use Rattle.text.specs.Rows.{fresh, onto, cellsIn, allNumbers, numbersOf, manyMore, Reading, begin, ended, within, readByte, readCells}
+use Rattle.text.specs.Rows.{fresh, inFront, cellsIn, allNumbers, valuesOf, manyMore, Reading, begin, ended, within, readByte, readCells}
 use Rattle.text.proofs.Puts.{put-then}
 use Rattle.text.proofs.Rows.{row-is}
 use Rattle.text.proofs.Counted.{cells-good, cells-count, cells-run, cells-long, many-few, many-large}
@@ -66,7 +66,7 @@ cells-some : (by : ℕ) (l : List ℕ) → 0 < length (cellsIn by l)
 cells-some by [] = omega arith
 cells-some by (b ∷ l) = go (eqb b by) (cellsIn by l)
   where
-    go : (t : Bool) (cs : List (List ℕ)) → 0 < length (pick t ([] ∷ cs) (onto b cs))
+    go : (t : Bool) (cs : List (List ℕ)) → 0 < length (pick t ([] ∷ cs) (inFront b cs))
     go true cs = omega arith
     go false [] = omega arith
     go false (c ∷ cs) = omega arith
@@ -81,7 +81,7 @@ name-ended k name numbers (c ∷ cs) some =
 
 -- the name takes a byte
 name-taken : (k b : ℕ) (name numbers : List ℕ) (cs : List (List ℕ))
-    → wordsOn (placeAfter (length name) k 1) (set name k b) numbers cs ≡ wordsOn k name numbers (onto b cs)
+    → wordsOn (placeAfter (length name) k 1) (set name k b) numbers cs ≡ wordsOn k name numbers (inFront b cs)
 name-taken k b name numbers [] = refl
 name-taken k b name numbers (w ∷ []) = refl
 name-taken k b name numbers (w ∷ c ∷ cs) =
@@ -100,12 +100,12 @@ name-heard (b ∷ l) k name numbers = go (eqb b 32) (name-heard l)
     go : (t : Bool)
         → ((j : ℕ) (n ns : List ℕ) → answerSaid (fed heardByte (heard (lineOf false j fresh) n ns) l) ≡ wordsOn j n ns (cellsIn 32 l))
         → answerSaid (fed heardByte (pick t (nameEnds (heard (lineOf false k fresh) name numbers)) (nameTakes (heard (lineOf false k fresh) name numbers) b)) l)
-        ≡ wordsOn k name numbers (pick t ([] ∷ cellsIn 32 l) (onto b (cellsIn 32 l)))
+        ≡ wordsOn k name numbers (pick t ([] ∷ cellsIn 32 l) (inFront b (cellsIn 32 l)))
     go true follow = numbers-said l k name numbers ∙ name-ended k name numbers (cellsIn 32 l) (cells-some 32 l)
     go false follow = follow (placeAfter (length name) k 1) (set name k b) numbers ∙ name-taken k b name numbers (cellsIn 32 l)
 
 -- ---- the words
-numbers-length : (cs : List (List ℕ)) → length (numbersOf cs) ≡ length cs
+numbers-length : (cs : List (List ℕ)) → length (valuesOf cs) ≡ length cs
 numbers-length [] = refl
 numbers-length (c ∷ cs) = ap suc (numbers-length cs)
 
@@ -161,29 +161,29 @@ module _ (name numbers : List ℕ) (long : length name ≡ 16) (many : length nu
 
   -- a name and its cells, each way
   cells-answered : (w : List ℕ) (cs : List (List ℕ))
-      → cellsSaid (placeAfter (length name) 0 (length w)) (sets name 0 w) (come cs) ≡ pick (allNumbers cs) (wordSaid (wordOf w) (numbersOf cs)) badSaid
+      → cellsSaid (placeAfter (length name) 0 (length w)) (sets name 0 w) (come cs) ≡ pick (allNumbers cs) (wordSaid (wordOf w) (valuesOf cs)) badSaid
   cells-answered w cs = go (allNumbers cs) (leb (length cs) 35100) refl refl
     where
       k : ℕ
       k = placeAfter (length name) 0 (length w)
 
       go : (s t : Bool) → allNumbers cs ≡ s → leb (length cs) 35100 ≡ t
-          → cellsSaid k (sets name 0 w) (come cs) ≡ pick s (wordSaid (wordOf w) (numbersOf cs)) badSaid
+          → cellsSaid k (sets name 0 w) (come cs) ≡ pick s (wordSaid (wordOf w) (valuesOf cs)) badSaid
       go false t p q = ill-read k (sets name 0 w) (come cs .row) (come cs .run) (cells-good 0 (begin numbers) cs ∙ p)
       go true false p q =
           let over = leb-false (length cs) 35100 q in
           let good = cells-good 0 (begin numbers) cs ∙ p in
           let past : length (come cs .run) < come cs .row .cells = omega (arith, come-long cs, come-over cs over) in
-          let past' : 35100 < length (numbersOf cs) = omega (arith, numbers-length cs) in
-          crowded k (sets name 0 w) (come cs .row) (come cs .run) good past ∙ sym (call-over (wordOf w) (numbersOf cs) past')
+          let past' : 35100 < length (valuesOf cs) = omega (arith, numbers-length cs) in
+          crowded k (sets name 0 w) (come cs .row) (come cs .run) good past ∙ sym (call-over (wordOf w) (valuesOf cs) past')
       go true true p q =
           let few = leb-true (length cs) 35100 q in
           let good = cells-good 0 (begin numbers) cs ∙ p in
           let count = come-few cs few in
           let fits : come cs .row .cells ≤ length (come cs .run) = omega (arith, come-long cs) in
           let within : k ≤ length (sets name 0 w) = omega (arith, length-sets name 0 w) in
-          let run : come cs .run ≡ sets numbers 0 (numbersOf cs) = cells-run cs 0 (begin numbers) p (omega arith) in
-          let front : take (length cs) (sets numbers 0 (numbersOf cs)) ≡ numbersOf cs = front-put numbers (numbersOf cs) (length cs) (numbers-length cs) (omega arith) in
+          let run : come cs .run ≡ sets numbers 0 (valuesOf cs) = cells-run cs 0 (begin numbers) p (omega arith) in
+          let front : take (length cs) (sets numbers 0 (valuesOf cs)) ≡ valuesOf cs = front-put numbers (valuesOf cs) (length cs) (numbers-length cs) (omega arith) in
           called k (sets name 0 w) (come cs .row) (come cs .run) good fits within
           ∙ ap (λ v. wordSaid v (take (come cs .row .cells) (come cs .run))) (name-asks w)
           ∙ ap (λ j. wordSaid (wordOf w) (take j (come cs .run))) count

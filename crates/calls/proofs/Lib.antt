@@ -1,3 +1,5 @@
+-- Lent: the rest of a run, as it is lent.
+-- Few: laws of bytes put, at most so many.
 -- Said: laws of answers as text.
 -- Parts: laws of the parts of a line's numbers.
 -- Narrowing: numbers of 16 bits, and their writing to a table.
@@ -9,7 +11,10 @@
 -- Input: that input in pieces is answered as a whole.
 -- Theorems: the headline statements.
 -- Serving: laws of serving bytes up to a line's end.
+-- Hears: laws of what has come of a line.
 -- Replies: laws of serving line by line, said of the input's bytes.
+pub mod Lent
+pub mod Few
 pub mod Said
 pub mod Parts
 pub mod Narrowing
@@ -21,4 +26,5 @@ pub mod Hearing
 pub mod Input
 pub mod Theorems
 pub mod Serving
+pub mod Hears
 pub mod Replies

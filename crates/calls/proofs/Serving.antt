@@ -8,13 +8,15 @@ use native.Mathlib.Omega.{arith}
 use borrow.Author.Tests.{lt-ltb, le-ltb, ltb-true, ltb-false}
 use lib.Dec.{ltb}
 use Rattle.ranges.specs.Numbers.{pick}
-use lib.ListN.{length, take, drop, length-take, length-drop}
+use lib.ListN.{length, take, drop}
 use Rattle.text.specs.Cells.{fed}
-use Rattle.text.specs.Puts.{Put}
 use Rattle.text.proofs.Puts.{put-no-byte}
 use Rattle.calls.specs.Lines.{Heard, unheard, heardByte, lineIn}
 use Rattle.calls.specs.Answers.{answerSaid}
+use Rattle.calls.specs.Few.{PutFew, answerMost}
 use Rattle.calls.specs.Serving.{servedOf, Served}
+use Rattle.calls.proofs.Few.{few-text}
+use Rattle.calls.proofs.Lent.{rest-long}
 use Rattle.calls.proofs.Lines.{line-within}
 
 module _ (s : Heard) (bytes : List ℕ) (k : ℕ) (is : k ≡ lineIn bytes) {h : Heard} (hears : h ≡ fed heardByte s (take k bytes)) where
@@ -25,7 +27,7 @@ module _ (s : Heard) (bytes : List ℕ) (k : ℕ) (is : k ≡ lineIn bytes) {h :
       let over : length bytes ≤ lineIn bytes = omega arith in
       record {
         count = rw (le-ltb (lineIn bytes) (length bytes) over) is;
-        said = rw (le-ltb (lineIn bytes) (length bytes) over) put-no-byte;
+        said = rw (le-ltb (lineIn bytes) (length bytes) over) (few-text answerMost (omega arith) put-no-byte);
         within = λ e. rw is at hears;
         anew = λ lt. absurd (omega arith);
         name-kept = name-kept;
@@ -34,7 +36,7 @@ module _ (s : Heard) (bytes : List ℕ) (k : ℕ) (is : k ≡ lineIn bytes) {h :
 
   -- a line ends
   pub served-ended : {out : List ℕ} {at : ℕ} {t : Heard} {after : List ℕ} {end : ℕ} → (k ≡ length bytes → ⊥)
-      → Put out at (answerSaid h ++ (10 ∷ [])) after end → t .line ≡ unheard → length (t .name) ≡ length (s .name) → length (t .numbers) ≡ length (s .numbers) → Served s bytes out at t (k + 1) after end
+      → PutFew answerMost out at (answerSaid h ++ (10 ∷ [])) after end → t .line ≡ unheard → length (t .name) ≡ length (s .name) → length (t .numbers) ≡ length (s .numbers) → Served s bytes out at t (k + 1) after end
   served-ended {out} {at} {t} {after} {end} not-all put anew name-kept numbers-kept =
       let within : lineIn bytes < length bytes = omega (arith, line-within bytes) in
       record {
@@ -62,15 +64,11 @@ module _ (bytes : List ℕ) where
       go true e = omega arith
       go false e = let le = ltb-false (lineIn bytes) (length bytes) e in omega arith
 
--- a part of the bytes from a place on, as it is lent
-pub part-long : (bytes : List ℕ) (from : ℕ) → length (take (length bytes - from) (drop from bytes)) ≡ length bytes - from
-part-long bytes from = simp (length-take, length-drop) (omega arith)
-
--- what is served of it
+-- what is served of the rest from a place on
 pub served-on : (bytes : List ℕ) (from : ℕ) {next : ℕ} → from < length bytes → next ≡ servedOf (take (length bytes - from) (drop from bytes))
     → (0 < next) × (from + next ≤ length bytes)
 served-on bytes from lt is =
     let part : List ℕ = take (length bytes - from) (drop from bytes) in
-    let size : length part ≡ length bytes - from = part-long bytes from in
+    let size : length part ≡ length bytes - from = rest-long bytes from in
     let some : 0 < length part = omega arith in
     (omega (arith, served-some part some), omega (arith, served-most part))

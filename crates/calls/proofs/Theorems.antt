@@ -5,7 +5,8 @@
 --
 -- The contracts tie the code to these definitions. `serve_lines` puts what a piece's bytes answer (`saidFrom`) and hears what they
 -- leave of a line (`leftFrom`), and `put_last` puts what the input's end answers (`lastSaid`); `piecesSaid` is these put together as
--- `serve` does. What is left to testing is that `serve` hands each the bytes that were read, and writes the bytes that were put.
+-- `serve` does. An answer fits the room that is made for it, so that nothing is left out (`whole` of `specs/Replies.antt`). What is
+-- left to testing is that `serve` hands each the bytes that were read, and writes the bytes that were put.
 -- Assumes nothing.
 use Prim.Native.Nat.{ℕ}
 use mathlib.Core.List.{List, [], flatten}

@@ -1,32 +1,24 @@
 -- Laws of what each word answers (`specs/Words.antt`), way by way.
 -- Assumes nothing.
-use Prim.Native.Nat.{ℕ, _+_, _-_, _≤_, _<_}
+use Prim.Native.Nat.{ℕ, _+_, _≤_, _<_}
 use mathlib.Core.List.{List, _++_}
 use mathlib.Core.Path.{_≡_}
-use native.Mathlib.Omega.{arith}
 use borrow.Author.Tests.{lt-ltb, le-ltb, eq-eqb, ne-eqb}
-use lib.ListN.{length, getD, take, drop, length-drop}
-use lib.Seq.{take-all}
+use lib.ListN.{length, getD, drop}
 use Rattle.ranges.specs.declared.refusal.Count.{Count}
 use Rattle.ranges.specs.Prefixes.{boundsOf}
 use Rattle.ranges.specs.Blocks.{expandOf, runAfter}
 use Rattle.lists.specs.Rules.{Rules}
 use Rattle.sorting.specs.Build.{Built}
 use Rattle.text.specs.Texts.{bytes}
-use Rattle.text.specs.Puts.{Put}
+use Rattle.calls.specs.Few.{PutFew}
 use Rattle.calls.specs.Said.{allSpaced, countSaid, boundsSaid}
 use Rattle.calls.specs.Words.{badSaid, buildSaid, p2rSaid, expandedSaid, r2pSaid}
 
--- the rest of a run from a place on, as it is lent
-pub rest-lent : (xs : List ℕ) (a : ℕ) → take (length xs - a) (drop a xs) ≡ drop a xs
-rest-lent xs a =
-    let all : length (drop a xs) ≤ length xs - a = omega (arith, length-drop a xs) in
-    take-all (length xs - a) (drop a xs) all
-
 -- ---- build, lookup, audit, report
 -- the answer and the table as the library left them
-pub built-is : (R : Rules) (T : List ℕ) {count : Count} {after out : List ℕ} {at : ℕ} {last : List ℕ} {end : ℕ} → Built R T after count
-    → Put out at (countSaid count ++ bytes " table" ++ allSpaced after) last end → Put out at (buildSaid R T) last end
+pub built-is : (R : Rules) (T : List ℕ) {count : Count} {after out : List ℕ} {at : ℕ} {last : List ℕ} {end most : ℕ} → Built R T after count
+    → PutFew most out at (countSaid count ++ bytes " table" ++ allSpaced after) last end → PutFew most out at (buildSaid R T) last end
 built-is R T built put = rw (built .answers, built .leaves) at put
 
 -- ---- p2r
@@ -41,9 +33,9 @@ module _ (ns : List ℕ) where
 
 -- ---- r2p
 -- the answer and the run as the library left them
-pub expanded-is : (width low high : ℕ) (run : List ℕ) {count : Count} {after out : List ℕ} {at : ℕ} {last : List ℕ} {end : ℕ}
+pub expanded-is : (width low high : ℕ) (run : List ℕ) {count : Count} {after out : List ℕ} {at : ℕ} {last : List ℕ} {end most : ℕ}
     → count ≡ expandOf width low high run → after ≡ runAfter width low high run
-    → Put out at (countSaid count ++ bytes " run" ++ allSpaced after) last end → Put out at (expandedSaid width low high run) last end
+    → PutFew most out at (countSaid count ++ bytes " run" ++ allSpaced after) last end → PutFew most out at (expandedSaid width low high run) last end
 expanded-is width low high run is is' put = rw (is, is') at put
 
 module _ (ns : List ℕ) where

@@ -6,14 +6,14 @@ use Prim.Native.Nat.{ℕ}
 use mathlib.Core.List.{List, [], _∷_, _++_}
 use lib.Dec.{eqb}
 use Rattle.ranges.specs.Numbers.{pick}
-use Rattle.text.specs.Rows.{onto}
+use Rattle.text.specs.Rows.{inFront}
 use Rattle.calls.specs.Answers.{answerTo}
 
 -- ---- the whole input
 -- its lines: LF ends a line, and what follows the last LF, if anything, is a line too
 abbrev pub inputLines : List ℕ → List (List ℕ)
 inputLines [] = []
-inputLines (b ∷ bs) = pick (eqb b 10) ([] ∷ inputLines bs) (onto b (inputLines bs))
+inputLines (b ∷ bs) = pick (eqb b 10) ([] ∷ inputLines bs) (inFront b (inputLines bs))
 
 -- the answer to a line, and LF
 abbrev pub answerLine : List ℕ → List ℕ

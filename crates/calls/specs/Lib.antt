@@ -1,3 +1,4 @@
+pub mod Few
 pub mod Said
 pub mod Parts
 pub mod Words

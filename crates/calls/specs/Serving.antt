@@ -8,7 +8,7 @@ use lib.ListN.{length, take}
 use lib.Dec.{ltb}
 use Rattle.ranges.specs.Numbers.{pick}
 use Rattle.text.specs.Cells.{fed}
-use Rattle.text.specs.Puts.{Put}
+use Rattle.calls.specs.Few.{PutFew, answerMost}
 use Rattle.calls.specs.Lines.{Heard, unheard, heardByte, lineIn}
 use Rattle.calls.specs.Answers.{answerSaid}
 
@@ -32,7 +32,7 @@ saidIn s bytes = pick (endsIn bytes) (answerSaid (heardIn s bytes) ++ (10 ∷ []
 -- to keep their lengths, and may then hold anything
 pub record Served (s : Heard) (bytes out : List ℕ) (at : ℕ) (t : Heard) (next : ℕ) (after : List ℕ) (end : ℕ) : Type 0 where
   pub count : next ≡ servedOf bytes
-  pub said : Put out at (saidIn s bytes) after end
+  pub said : PutFew answerMost out at (saidIn s bytes) after end
   pub within : lineIn bytes ≡ length bytes → t ≡ heardIn s bytes
   pub anew : lineIn bytes < length bytes → t .line ≡ unheard
   pub name-kept : length (t .name) ≡ length (s .name)

@@ -11,14 +11,15 @@ use crate::word::Word;
 use crate::word::word_of;
 use text::put::put_byte;
 use text::row::row_next;
+ghost use Prim.Native.Nat.{_-_};
 ghost use mathlib.Core.List.{[], _∷_, _++_};
-ghost use Rattle.text.specs.Puts.{Put};
+ghost use Rattle.calls.specs.Few.{PutFew, answerMost};
 ghost use Rattle.calls.specs.Lines.{heard};
 ghost use Rattle.calls.specs.Answers.{wordSaid, answerSaid};
 
 // Puts what a call answers, given the line's numbers after its name.
 fn put_word(word: Word, given: &mut [u32], out: &mut [u8], at: usize) -> usize
-    ensures { λ r. ⌜ Put (now (out .entry)) at (wordSaid word (now (given .entry))) (now (out .exit)) r ⌝ }
+    ensures { λ r. ⌜ PutFew (answerMost - 1) (now (out .entry)) at (wordSaid word (now (given .entry))) (now (out .exit)) r ⌝ }
 {
     match word {
         Word::Check => call_check(given, out, at),
@@ -34,7 +35,7 @@ fn put_word(word: Word, given: &mut [u32], out: &mut [u8], at: usize) -> usize
 // Puts the answer to a line, without its LF.
 fn put_answer(line: Line, name: &[u8], numbers: &mut [u32], out: &mut [u8], at: usize) -> usize
     ensures { λ r.
-        ⌜ Put (now (out .entry)) at (answerSaid (heard line (now (name .entry)) (now (numbers .entry)))) (now (out .exit)) r ⌝ }
+        ⌜ PutFew (answerMost - 1) (now (out .entry)) at (answerSaid (heard line (now (name .entry)) (now (numbers .entry)))) (now (out .exit)) r ⌝ }
 {
     if !line.named {
         return put_bad(out, at);
@@ -59,7 +60,7 @@ fn put_answer(line: Line, name: &[u8], numbers: &mut [u32], out: &mut [u8], at: 
 // Puts the answer to a line, with its LF.
 pub fn answer(line: Line, name: &[u8], numbers: &mut [u32], out: &mut [u8], at: usize) -> usize
     ensures { λ r.
-        ⌜ Put (now (out .entry)) at (answerSaid (heard line (now (name .entry)) (now (numbers .entry))) ++ (10 ∷ [])) (now (out .exit)) r ⌝ }
+        ⌜ PutFew answerMost (now (out .entry)) at (answerSaid (heard line (now (name .entry)) (now (numbers .entry))) ++ (10 ∷ [])) (now (out .exit)) r ⌝ }
 {
     let next = put_answer(line, name, numbers, out, at);
     put_byte(b'\n', out, next)

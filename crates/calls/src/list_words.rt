@@ -10,12 +10,12 @@ use crate::say::put_pair;
 use lists::check::check_list;
 use lists::independence::independence;
 use lists::scan::plain_scan;
-ghost use Rattle.text.specs.Puts.{Put};
+ghost use Rattle.calls.specs.Few.{PutFew};
 ghost use Rattle.calls.specs.Words.{checkSaid, scanSaid, independentSaid};
 
 // check D LIST: puts the number of rules, or the refusal.
 pub fn call_check(given: &[u32], out: &mut [u8], at: usize) -> usize
-    ensures { λ r. ⌜ Put (now (out .entry)) at (checkSaid (now (given .entry))) (now (out .exit)) r ⌝ }
+    ensures { λ r. ⌜ PutFew 70 (now (out .entry)) at (checkSaid (now (given .entry))) (now (out .exit)) r ⌝ }
 {
     let end = list_end(given, 0);
     let End::At(e) = end else {
@@ -27,7 +27,7 @@ pub fn call_check(given: &[u32], out: &mut [u8], at: usize) -> usize
 
 // scan D LIST HEADER: puts the first match, or none, or the refusal.
 pub fn call_scan(given: &[u32], out: &mut [u8], at: usize) -> usize
-    ensures { λ r. ⌜ Put (now (out .entry)) at (scanSaid (now (given .entry))) (now (out .exit)) r ⌝ }
+    ensures { λ r. ⌜ PutFew 70 (now (out .entry)) at (scanSaid (now (given .entry))) (now (out .exit)) r ⌝ }
 {
     let end = list_end(given, 8);
     let End::At(e) = end else {
@@ -41,7 +41,7 @@ pub fn call_scan(given: &[u32], out: &mut [u8], at: usize) -> usize
 
 // independent D LIST: puts yes, or no and the least pair of rules that one header fits, or the refusal.
 pub fn call_independent(given: &[u32], out: &mut [u8], at: usize) -> usize
-    ensures { λ r. ⌜ Put (now (out .entry)) at (independentSaid (now (given .entry))) (now (out .exit)) r ⌝ }
+    ensures { λ r. ⌜ PutFew 70 (now (out .entry)) at (independentSaid (now (given .entry))) (now (out .exit)) r ⌝ }
 {
     let end = list_end(given, 0);
     let End::At(e) = end else {

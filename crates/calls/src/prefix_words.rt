@@ -6,12 +6,14 @@ use crate::say::put_count;
 use ranges::expand::range_to_prefixes;
 use ranges::prefix::prefix_to_range;
 use text::put::put_text;
-ghost use Rattle.text.specs.Puts.{Put};
+ghost use Prim.Native.Nat.{_+_, _-_, _*_};
+ghost use lib.ListN.{length};
+ghost use Rattle.calls.specs.Few.{PutFew, answerMost};
 ghost use Rattle.calls.specs.Words.{p2rSaid, expandedSaid, r2pSaid};
 
 // p2r VALUE LENGTH WIDTH: puts the prefix's low and high end, or the refusal.
 pub fn call_p2r(given: &[u32], out: &mut [u8], at: usize) -> usize
-    ensures { λ r. ⌜ Put (now (out .entry)) at (p2rSaid (now (given .entry))) (now (out .exit)) r ⌝ }
+    ensures { λ r. ⌜ PutFew 70 (now (out .entry)) at (p2rSaid (now (given .entry))) (now (out .exit)) r ⌝ }
 {
     if given.len() != 3 {
         return put_bad(out, at);
@@ -29,7 +31,7 @@ fn put_expanded(
     out: &mut [u8],
     at: usize,
 ) -> usize
-    ensures { λ r. ⌜ Put (now (out .entry)) at (expandedSaid width low high (now (run .entry))) (now (out .exit)) r ⌝ }
+    ensures { λ r. ⌜ PutFew (74 + 21 * length (now (run .entry))) (now (out .entry)) at (expandedSaid width low high (now (run .entry))) (now (out .exit)) r ⌝ }
 {
     let count = range_to_prefixes(width, low, high, run);
     let a = put_count(count, out, at);
@@ -39,7 +41,7 @@ fn put_expanded(
 
 // r2p LOW HIGH WIDTH RUN: puts how many prefixes the range has, or the refusal, and the run afterwards.
 pub fn call_r2p(given: &mut [u32], out: &mut [u8], at: usize) -> usize
-    ensures { λ r. ⌜ Put (now (out .entry)) at (r2pSaid (now (given .entry))) (now (out .exit)) r ⌝ }
+    ensures { λ r. ⌜ PutFew (answerMost - 1) (now (out .entry)) at (r2pSaid (now (given .entry))) (now (out .exit)) r ⌝ }
 {
     if given.len() < 4 {
         return put_bad(out, at);

@@ -5,9 +5,10 @@ use crate::line::hear;
 use crate::line::line_in;
 use crate::line::line_start;
 ghost use mathlib.Core.Path.{_≡_};
+ghost use lib.ListN.{length};
 ghost use Rattle.calls.specs.Lines.{heard};
 ghost use Rattle.calls.specs.Serving.{Served};
-ghost use Rattle.calls.specs.Replies.{ServedLines, begunLine, ServedLast};
+ghost use Rattle.calls.specs.Replies.{ServedLines, roomAt, begunLine, ServedLast};
 
 // Where serving has come to: the present line, the next byte to serve, and the next place for an answer.
 pub struct Place {
@@ -47,12 +48,17 @@ fn serve_line(
     }
 }
 
-// Says whether there is room for one more answer after a place: no answer has more than 388,600 bytes.
-fn has_room(out: &[u8], at: usize) -> bool {
+// Says whether there is room for one more answer after a place: none has more than 388,600 bytes, its LF among them.
+fn has_room(out: &[u8], at: usize) -> bool
+    ensures { λ r. ⌜ r ≡ roomAt (length (now (out .entry))) at ⌝ }
+{
     if out.len() < at {
         return false;
     }
-    388600 <= out.len() - at
+    if out.len() - at < 388600 {
+        return false;
+    }
+    true
 }
 
 // Serves bytes line by line, until all are served or there is no more room, and puts the answers from the run's start

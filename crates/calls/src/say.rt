@@ -1,5 +1,5 @@
 // Answers as text, put at a place of a lent run: each function answers the place after it. An answer is a word and
-// numbers, each after a blank.
+// numbers, each after a blank. A number takes at most 21 bytes; an answer without a table or a run has at most 70.
 use lists::independence::Pair;
 use lists::scan::Match;
 use lookup::lookup::Looked;
@@ -11,14 +11,16 @@ use sorting::report::Part;
 use text::put::put_byte;
 use text::put::put_number;
 use text::put::put_text;
+ghost use Prim.Native.Nat.{_*_};
 ghost use mathlib.Core.Path.{_≡_};
+ghost use lib.ListN.{length};
 ghost use Rattle.text.specs.Texts.{bytes};
-ghost use Rattle.text.specs.Puts.{Put};
+ghost use Rattle.calls.specs.Few.{PutFew};
 ghost use Rattle.calls.specs.Said.{spaced, allSpaced, refusalSaid, countSaid, boundsSaid, matchSaid, pairSaid, foundSaid, verdictSaid, partSaid};
 
 // Puts a blank and a number.
 pub fn put_spaced(n: u64, out: &mut [u8], at: usize) -> usize
-    ensures { λ r. ⌜ Put (now (out .entry)) at (spaced n) (now (out .exit)) r ⌝ }
+    ensures { λ r. ⌜ PutFew 21 (now (out .entry)) at (spaced n) (now (out .exit)) r ⌝ }
 {
     let next = put_byte(b' ', out, at);
     put_number(n, out, next)
@@ -26,7 +28,7 @@ pub fn put_spaced(n: u64, out: &mut [u8], at: usize) -> usize
 
 // Puts each number of a run after a blank.
 pub fn put_all(numbers: &[u32], out: &mut [u8], at: usize) -> usize
-    ensures { λ r. ⌜ Put (now (out .entry)) at (allSpaced (now (numbers .entry))) (now (out .exit)) r ⌝ }
+    ensures { λ r. ⌜ PutFew (21 * length (now (numbers .entry))) (now (out .entry)) at (allSpaced (now (numbers .entry))) (now (out .exit)) r ⌝ }
 {
     let mut place = at;
     let mut i = 0;
@@ -46,7 +48,7 @@ fn wide(n: u32) -> u64
 
 // Puts each number of a table after a blank.
 pub fn put_table(numbers: &[u16], out: &mut [u8], at: usize) -> usize
-    ensures { λ r. ⌜ Put (now (out .entry)) at (allSpaced (now (numbers .entry))) (now (out .exit)) r ⌝ }
+    ensures { λ r. ⌜ PutFew (21 * length (now (numbers .entry))) (now (out .entry)) at (allSpaced (now (numbers .entry))) (now (out .exit)) r ⌝ }
 {
     let mut place = at;
     let mut i = 0;
@@ -66,14 +68,14 @@ fn wide16(n: u16) -> u64
 
 // Puts the answer to a line that is no call.
 pub fn put_bad(out: &mut [u8], at: usize) -> usize
-    ensures { λ r. ⌜ Put (now (out .entry)) at (bytes "bad") (now (out .exit)) r ⌝ }
+    ensures { λ r. ⌜ PutFew 70 (now (out .entry)) at (bytes "bad") (now (out .exit)) r ⌝ }
 {
     put_text(b"bad", out, at)
 }
 
 // Puts a refusal: its number and its place of two numbers.
 pub fn put_refused(x: Refusal, out: &mut [u8], at: usize) -> usize
-    ensures { λ r. ⌜ Put (now (out .entry)) at (refusalSaid x) (now (out .exit)) r ⌝ }
+    ensures { λ r. ⌜ PutFew 70 (now (out .entry)) at (refusalSaid x) (now (out .exit)) r ⌝ }
 {
     let a = put_text(b"refused", out, at);
     let b = put_spaced(x.number as u64, out, a);
@@ -83,7 +85,7 @@ pub fn put_refused(x: Refusal, out: &mut [u8], at: usize) -> usize
 
 // Puts what is counted, or the refusal.
 pub fn put_count(count: Count, out: &mut [u8], at: usize) -> usize
-    ensures { λ r. ⌜ Put (now (out .entry)) at (countSaid count) (now (out .exit)) r ⌝ }
+    ensures { λ r. ⌜ PutFew 70 (now (out .entry)) at (countSaid count) (now (out .exit)) r ⌝ }
 {
     match count {
         Count::Is(k) => {
@@ -96,7 +98,7 @@ pub fn put_count(count: Count, out: &mut [u8], at: usize) -> usize
 
 // Puts a range's low and high end, or the refusal.
 pub fn put_bounds(bounds: Bounds, out: &mut [u8], at: usize) -> usize
-    ensures { λ r. ⌜ Put (now (out .entry)) at (boundsSaid bounds) (now (out .exit)) r ⌝ }
+    ensures { λ r. ⌜ PutFew 70 (now (out .entry)) at (boundsSaid bounds) (now (out .exit)) r ⌝ }
 {
     match bounds {
         Bounds::Are(low, high) => {
@@ -110,7 +112,7 @@ pub fn put_bounds(bounds: Bounds, out: &mut [u8], at: usize) -> usize
 
 // Puts the first match, or none, or the refusal.
 pub fn put_match(found: Match, out: &mut [u8], at: usize) -> usize
-    ensures { λ r. ⌜ Put (now (out .entry)) at (matchSaid found) (now (out .exit)) r ⌝ }
+    ensures { λ r. ⌜ PutFew 70 (now (out .entry)) at (matchSaid found) (now (out .exit)) r ⌝ }
 {
     match found {
         Match::Rule(i) => {
@@ -124,7 +126,7 @@ pub fn put_match(found: Match, out: &mut [u8], at: usize) -> usize
 
 // Puts yes, or no and the pair of rules, or the refusal.
 pub fn put_pair(pair: Pair, out: &mut [u8], at: usize) -> usize
-    ensures { λ r. ⌜ Put (now (out .entry)) at (pairSaid pair) (now (out .exit)) r ⌝ }
+    ensures { λ r. ⌜ PutFew 70 (now (out .entry)) at (pairSaid pair) (now (out .exit)) r ⌝ }
 {
     match pair {
         Pair::Independent => put_text(b"ok yes", out, at),
@@ -139,7 +141,7 @@ pub fn put_pair(pair: Pair, out: &mut [u8], at: usize) -> usize
 
 // Puts the first match, or none, and the tests made, or the refusal.
 pub fn put_looked(looked: Looked, out: &mut [u8], at: usize) -> usize
-    ensures { λ r. ⌜ Put (now (out .entry)) at (foundSaid looked) (now (out .exit)) r ⌝ }
+    ensures { λ r. ⌜ PutFew 70 (now (out .entry)) at (foundSaid looked) (now (out .exit)) r ⌝ }
 {
     match looked {
         Looked::Rule { rule, tests } => {
@@ -157,7 +159,7 @@ pub fn put_looked(looked: Looked, out: &mut [u8], at: usize) -> usize
 
 // Puts yes or no, or the refusal.
 pub fn put_verdict(verdict: Verdict, out: &mut [u8], at: usize) -> usize
-    ensures { λ r. ⌜ Put (now (out .entry)) at (verdictSaid verdict) (now (out .exit)) r ⌝ }
+    ensures { λ r. ⌜ PutFew 70 (now (out .entry)) at (verdictSaid verdict) (now (out .exit)) r ⌝ }
 {
     match verdict {
         Verdict::Yes => put_text(b"ok yes", out, at),
@@ -168,7 +170,7 @@ pub fn put_verdict(verdict: Verdict, out: &mut [u8], at: usize) -> usize
 
 // Puts a partition's size and its smallest rule number, or the refusal.
 pub fn put_part(part: Part, out: &mut [u8], at: usize) -> usize
-    ensures { λ r. ⌜ Put (now (out .entry)) at (partSaid part) (now (out .exit)) r ⌝ }
+    ensures { λ r. ⌜ PutFew 70 (now (out .entry)) at (partSaid part) (now (out .exit)) r ⌝ }
 {
     match part {
         Part::Is { size, least } => {

@@ -17,17 +17,18 @@ use sorting::audit::audit;
 use sorting::build::build;
 use sorting::report::report;
 use text::put::put_text;
+ghost use Prim.Native.Nat.{_+_, _-_, _*_};
 ghost use mathlib.Core.Path.{_≡_};
 ghost use lib.ListN.{length};
 ghost use Rattle.lists.specs.Rules.{listed};
-ghost use Rattle.text.specs.Puts.{Put};
+ghost use Rattle.calls.specs.Few.{PutFew, answerMost};
 ghost use Rattle.calls.specs.Parts.{Tabled};
 ghost use Rattle.calls.specs.Words.{following, buildSaid, lookupSaid, auditSaid, reportSaid, tableSaid, tabledSaid};
 
 // build D LIST TABLE: puts the number of partitions, or the refusal, and then the table's numbers afterwards.
 fn put_build(shape: Shape, list: &[u32], table: &mut [u16], out: &mut [u8], at: usize) -> usize
     ensures { λ r.
-        ⌜ Put (now (out .entry)) at (buildSaid (listed shape (now (list .entry))) (now (table .entry))) (now (out .exit)) r ⌝ }
+        ⌜ PutFew (76 + 21 * length (now (table .entry))) (now (out .entry)) at (buildSaid (listed shape (now (list .entry))) (now (table .entry))) (now (out .exit)) r ⌝ }
 {
     let count = build(shape, list, table);
     let a = put_count(count, out, at);
@@ -45,7 +46,7 @@ fn put_lookup(
     at: usize,
 ) -> usize
     ensures { λ r.
-        ⌜ Put (now (out .entry)) at (lookupSaid (listed shape (now (list .entry))) (now (table .entry)) header) (now (out .exit)) r ⌝ }
+        ⌜ PutFew 70 (now (out .entry)) at (lookupSaid (listed shape (now (list .entry))) (now (table .entry)) header) (now (out .exit)) r ⌝ }
 {
     let looked = lookup(shape, list, table, header);
     put_looked(looked, out, at)
@@ -54,7 +55,7 @@ fn put_lookup(
 // audit D LIST TABLE: puts yes or no, or the refusal.
 fn put_audit(shape: Shape, list: &[u32], table: &[u16], out: &mut [u8], at: usize) -> usize
     ensures { λ r.
-        ⌜ Put (now (out .entry)) at (auditSaid (listed shape (now (list .entry))) (now (table .entry))) (now (out .exit)) r ⌝ }
+        ⌜ PutFew 70 (now (out .entry)) at (auditSaid (listed shape (now (list .entry))) (now (table .entry))) (now (out .exit)) r ⌝ }
 {
     let verdict = audit(shape, list, table);
     put_verdict(verdict, out, at)
@@ -70,7 +71,7 @@ fn put_report(
     at: usize,
 ) -> usize
     ensures { λ r.
-        ⌜ Put (now (out .entry)) at (reportSaid (listed shape (now (list .entry))) (now (table .entry)) part) (now (out .exit)) r ⌝ }
+        ⌜ PutFew 70 (now (out .entry)) at (reportSaid (listed shape (now (list .entry))) (now (table .entry)) part) (now (out .exit)) r ⌝ }
 {
     let reported = report(shape, list, table, part as usize);
     put_part(reported, out, at)
@@ -100,7 +101,7 @@ fn put_with(
 ) -> usize
     requires { ⌜ length (now rest) ≡ following word ⌝ }
     ensures { λ r.
-        ⌜ Put (now (out .entry)) at (tableSaid word (listed shape (now (list .entry))) (now (table .entry)) (now (rest .entry))) (now (out .exit)) r ⌝ }
+        ⌜ PutFew (76 + 21 * length (now (table .entry))) (now (out .entry)) at (tableSaid word (listed shape (now (list .entry))) (now (table .entry)) (now (rest .entry))) (now (out .exit)) r ⌝ }
 {
     match word {
         TableWord::Build => put_build(shape, list, table, out, at),
@@ -122,7 +123,7 @@ fn put_tabled(
 ) -> usize
     requires { ⌜ Tabled (now numbers) (now rest) (following word) ⌝ }
     ensures { λ r.
-        ⌜ Put (now (out .entry)) at (tableSaid word (listed shape (now (list .entry))) (now (numbers .entry)) (now (rest .entry))) (now (out .exit)) r ⌝ }
+        ⌜ PutFew (76 + 21 * length (now (numbers .entry))) (now (out .entry)) at (tableSaid word (listed shape (now (list .entry))) (now (numbers .entry)) (now (rest .entry))) (now (out .exit)) r ⌝ }
 {
     let mut table = [0u16; 18500];
     let m = numbers.len();
@@ -132,7 +133,7 @@ fn put_tabled(
 
 // Puts what a call of a list and a table answers.
 pub fn call_table(word: TableWord, given: &[u32], out: &mut [u8], at: usize) -> usize
-    ensures { λ r. ⌜ Put (now (out .entry)) at (tabledSaid word (now (given .entry))) (now (out .exit)) r ⌝ }
+    ensures { λ r. ⌜ PutFew (answerMost - 1) (now (out .entry)) at (tabledSaid word (now (given .entry))) (now (out .exit)) r ⌝ }
 {
     let more = numbers_after(word);
     let ends = table_ends(given, more);

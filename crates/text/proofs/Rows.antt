@@ -2,7 +2,7 @@
 --     more-few, more-many                  one cell more
 --     next-empty, next-number, next-bad    the line after a cell
 --     kept-empty, kept-number, kept-bad    the run then
---     kept-length                          which keeps its length
+--     kept-length, kept-long               which keeps its length
 --     read-ends, read-takes                one byte of a line
 --     row-is                               all bytes of a line: its cells
 -- Assumes nothing.
@@ -62,6 +62,10 @@ pub kept-length : (cell : Cell) (at : ℕ) (run : List ℕ) → length (keptAs c
 kept-length Empty at run = refl
 kept-length (Number v) at run = length-set run at v
 kept-length Bad at run = refl
+
+pub kept-long : (row : Row) (from : ℕ) (run : List ℕ) → length (keptAt row from run) ≡ length run
+unfolding keptAt
+kept-long row from run = kept-length (row .cell) (from + row .cells) run
 
 -- ---- one byte of a line, as the code has it
 module _ (by from : ℕ) (s : Reading) {b : ℕ} {row : Row} where

@@ -1,10 +1,12 @@
 -- `calls::answer::put_answer` meets its contract: each way out is the law of its case.
 -- Assumes nothing.
 use borrow.Author.Needs.{needs}
+use native.Mathlib.Omega.{arith}
 use mathlib.Core.Path.{sym}
 use lib.Seq.{length-take-le}
 use borrow.Author.Tests.{not-true, not-false}
 use Rattle.calls.proofs.Answers.{unnamed, named-said, ill-read, crowded, lost-name, called}
+use Rattle.calls.proofs.Few.{few-more}
 use Rattle.calls.proofs.answer.put_answer.Statement.{statement}
 use Rattle.calls.proofs.answer.put_answer.Tie as tie
 
@@ -18,7 +20,7 @@ same-length c = search needs
 returns : tie.Need-returns
 returns c =
     let a = c .before .before .before .before .before .before .before .before .before .args in
-    rw (unnamed (a .line) (a .name .now) (a .numbers .now) (not-true (a .line .named) (c .before .before .before .before .if1 .taken))) (c .before .before .put-bad .ensures)
+    rw (unnamed (a .line) (a .name .now) (a .numbers .now) (not-true (a .line .named) (c .before .before .before .before .if1 .taken))) (few-more (omega arith) (c .before .before .put-bad .ensures))
 
 row-next-requires : tie.Need-row-next-requires
 row-next-requires c κs = search needs
@@ -37,7 +39,7 @@ returns-2 : tie.Need-returns-2
 returns-2 c =
     let a = c .before .before .before .before .before .before .before .before .before .before .before .before .before .before .before .before .args in
     let ended = c .before .before .before .before .before .before .before .before .row-next in
-    rw (named-said (a .line) (a .name .now) (a .numbers .now) (ended .ensures .0) (ended .ensures .1) (not-false (a .line .named) (c .before .before .before .before .before .before .before .before .before .before .before .if1 .left)), ill-read _ _ (ended .result) _ (not-true (ended .result .good) (c .before .before .before .before .if2 .taken))) (c .before .before .put-bad2 .ensures)
+    rw (named-said (a .line) (a .name .now) (a .numbers .now) (ended .ensures .0) (ended .ensures .1) (not-false (a .line .named) (c .before .before .before .before .before .before .before .before .before .before .before .if1 .left)), ill-read _ _ (ended .result) _ (not-true (ended .result .good) (c .before .before .before .before .if2 .taken))) (few-more (omega arith) (c .before .before .put-bad2 .ensures))
 
 cast-count : tie.Need-cast-count
 cast-count c = search needs
@@ -56,7 +58,7 @@ returns-3 : tie.Need-returns-3
 returns-3 c =
     let a = c .before .before .before .before .before .before .before .before .before .before .before .before .before .before .before .before .before .before .args in
     let ended = c .before .before .before .before .before .before .before .before .before .before .row-next in
-    rw (named-said (a .line) (a .name .now) (a .numbers .now) (ended .ensures .0) (ended .ensures .1) (not-false (a .line .named) (c .before .before .before .before .before .before .before .before .before .before .before .before .before .if1 .left)), crowded _ _ (ended .result) _ (not-false (ended .result .good) (c .before .before .before .before .before .before .if2 .left)) (c .before .before .before .before .if3 .taken)) (c .before .before .put-bad3 .ensures)
+    rw (named-said (a .line) (a .name .now) (a .numbers .now) (ended .ensures .0) (ended .ensures .1) (not-false (a .line .named) (c .before .before .before .before .before .before .before .before .before .before .before .before .before .if1 .left)), crowded _ _ (ended .result) _ (not-false (ended .result .good) (c .before .before .before .before .before .before .if2 .left)) (c .before .before .before .before .if3 .taken)) (few-more (omega arith) (c .before .before .put-bad3 .ensures))
 
 put-bad-requires-4 : tie.Need-put-bad-requires-4
 put-bad-requires-4 c κs = search needs
@@ -72,7 +74,7 @@ returns-4 : tie.Need-returns-4
 returns-4 c =
     let a = c .before .before .before .before .before .before .before .before .before .before .before .before .before .before .before .before .before .before .before .args in
     let ended = c .before .before .before .before .before .before .before .before .before .before .before .row-next in
-    rw (named-said (a .line) (a .name .now) (a .numbers .now) (ended .ensures .0) (ended .ensures .1) (not-false (a .line .named) (c .before .before .before .before .before .before .before .before .before .before .before .before .before .before .if1 .left)), lost-name _ _ (ended .result) _ (not-false (ended .result .good) (c .before .before .before .before .before .before .before .if2 .left)) (c .before .before .before .before .before .if3 .left) (c .before .before .before .before .if4 .taken)) (c .before .before .put-bad4 .ensures)
+    rw (named-said (a .line) (a .name .now) (a .numbers .now) (ended .ensures .0) (ended .ensures .1) (not-false (a .line .named) (c .before .before .before .before .before .before .before .before .before .before .before .before .before .before .if1 .left)), lost-name _ _ (ended .result) _ (not-false (ended .result .good) (c .before .before .before .before .before .before .before .if2 .left)) (c .before .before .before .before .before .if3 .left) (c .before .before .before .before .if4 .taken)) (few-more (omega arith) (c .before .before .put-bad4 .ensures))
 
 slice-aggregate-word-of : tie.Need-slice-aggregate-word-of
 slice-aggregate-word-of c = sym (length-take-le _ _ (c .before .if4 .left))

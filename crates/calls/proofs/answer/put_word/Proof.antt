@@ -1,6 +1,8 @@
 -- `calls::answer::put_word` meets its contract: each arm is its word.
 -- Assumes nothing.
 use borrow.Author.Needs.{needs}
+use native.Mathlib.Omega.{arith}
+use Rattle.calls.proofs.Few.{few-more}
 use Rattle.calls.proofs.answer.put_word.Statement.{statement}
 use Rattle.calls.proofs.answer.put_word.Tie as tie
 
@@ -53,7 +55,7 @@ same-length-2 : tie.Need-same-length-2
 same-length-2 c = search needs
 
 returns : tie.Need-returns
-returns c = rw (c .before .before .before .before .before .enum-told .given .1) (c .before .before .call-check .ensures)
+returns c = rw (c .before .before .before .before .before .enum-told .given .1) (few-more (omega arith) (c .before .before .call-check .ensures))
 
 same-length-3 : tie.Need-same-length-3
 same-length-3 c = search needs
@@ -62,7 +64,7 @@ same-length-4 : tie.Need-same-length-4
 same-length-4 c = search needs
 
 returns-2 : tie.Need-returns-2
-returns-2 c = rw (c .before .before .before .before .before .enum-told2 .given .1) (c .before .before .call-scan .ensures)
+returns-2 c = rw (c .before .before .before .before .before .enum-told2 .given .1) (few-more (omega arith) (c .before .before .call-scan .ensures))
 
 same-length-5 : tie.Need-same-length-5
 same-length-5 c = search needs
@@ -71,7 +73,7 @@ same-length-6 : tie.Need-same-length-6
 same-length-6 c = search needs
 
 returns-3 : tie.Need-returns-3
-returns-3 c = rw (c .before .before .before .before .before .enum-told3 .given .1) (c .before .before .call-independent .ensures)
+returns-3 c = rw (c .before .before .before .before .before .enum-told3 .given .1) (few-more (omega arith) (c .before .before .call-independent .ensures))
 
 same-length-7 : tie.Need-same-length-7
 same-length-7 c = search needs
@@ -89,7 +91,7 @@ same-length-10 : tie.Need-same-length-10
 same-length-10 c = search needs
 
 returns-5 : tie.Need-returns-5
-returns-5 c = rw (c .before .before .before .before .before .enum-told4 .given .1) (c .before .before .call-p2r .ensures)
+returns-5 c = rw (c .before .before .before .before .before .enum-told4 .given .1) (few-more (omega arith) (c .before .before .call-p2r .ensures))
 
 same-length-11 : tie.Need-same-length-11
 same-length-11 c = search needs
@@ -104,7 +106,7 @@ same-length-13 : tie.Need-same-length-13
 same-length-13 c = search needs
 
 returns-7 : tie.Need-returns-7
-returns-7 c = rw (c .before .before .before .before .enum-told6 .given .1) (c .before .before .put-bad .ensures)
+returns-7 c = rw (c .before .before .before .before .enum-told6 .given .1) (few-more (omega arith) (c .before .before .put-bad .ensures))
 
 pub put-word-spec : {M : Type 1} → statement M
 put-word-spec =

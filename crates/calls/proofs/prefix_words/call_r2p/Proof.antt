@@ -2,7 +2,9 @@
 -- Assumes nothing.
 use borrow.Author.Needs.{needs}
 use native.Mathlib.Omega.{arith}
-use Rattle.calls.proofs.Words.{rest-lent, r2p-short, r2p-long, r2p-cut, r2p-call}
+use Rattle.calls.proofs.Lent.{rest-lent, rest-long}
+use Rattle.calls.proofs.Words.{r2p-short, r2p-long, r2p-cut, r2p-call}
+use Rattle.calls.proofs.Few.{few-more}
 use Rattle.calls.proofs.prefix_words.call_r2p.Statement.{statement}
 use Rattle.calls.proofs.prefix_words.call_r2p.Tie as tie
 
@@ -14,7 +16,7 @@ same-length c = search needs
 
 -- too few numbers
 returns : tie.Need-returns
-returns c = rw (r2p-short (c .before .before .before .before .before .before .before .args .given .now) (c .before .before .before .before .if1 .taken)) (c .before .before .put-bad .ensures)
+returns c = rw (r2p-short (c .before .before .before .before .before .before .before .args .given .now) (c .before .before .before .before .if1 .taken)) (few-more (omega arith) (c .before .before .put-bad .ensures))
 
 slice-read-k : tie.Need-slice-read-k
 slice-read-k c = search needs
@@ -30,7 +32,7 @@ same-length-2 c = search needs
 
 -- a run too long
 returns-2 : tie.Need-returns-2
-returns-2 c = rw (r2p-long (c .before .before .before .before .before .before .before .before .before .args .given .now) (c .before .before .before .before .before .before .if1 .left) (c .before .before .before .before .if2 .taken)) (c .before .before .put-bad2 .ensures)
+returns-2 c = rw (r2p-long (c .before .before .before .before .before .before .before .before .before .args .given .now) (c .before .before .before .before .before .before .if1 .left) (c .before .before .before .before .if2 .taken)) (few-more (omega arith) (c .before .before .put-bad2 .ensures))
 
 add-if3 : tie.Need-add-if3
 add-if3 c = search needs
@@ -43,7 +45,7 @@ same-length-3 c = search needs
 
 -- a run cut short, or more after it
 returns-3 : tie.Need-returns-3
-returns-3 c = rw (r2p-cut (c .before .before .before .before .before .before .before .before .before .before .args .given .now) (c .before .before .before .before .before .before .before .if1 .left) (c .before .before .before .before .before .if2 .left) (c .before .before .before .before .if3 .taken)) (c .before .before .put-bad3 .ensures)
+returns-3 c = rw (r2p-cut (c .before .before .before .before .before .before .before .before .before .before .args .given .now) (c .before .before .before .before .before .before .before .if1 .left) (c .before .before .before .before .before .if2 .left) (c .before .before .before .before .if3 .taken)) (few-more (omega arith) (c .before .before .put-bad3 .ensures))
 
 slice-read-width : tie.Need-slice-read-width
 slice-read-width c = search needs
@@ -76,7 +78,10 @@ same-length-5 c = search needs
 returns-4 : tie.Need-returns-4
 returns-4 c =
     let ns = c .before .before .before .before .before .before .before .before .before .before .before .before .before .before .before .before .args .given .now in
-    rw (r2p-call ns (c .before .before .before .before .before .before .before .before .before .before .before .before .before .if1 .left) (c .before .before .before .before .before .before .before .before .before .before .before .if2 .left) (c .before .before .before .before .before .before .before .before .before .before .if3 .left), ← rest-lent ns 4) (c .before .before .before .before .put-expanded .ensures)
+    let short = c .before .before .before .before .before .before .before .before .before .before .before .if2 .left in
+    let all = c .before .before .before .before .before .before .before .before .before .before .if3 .left in
+    let size = rest-long ns 4 in
+    rw (r2p-call ns (c .before .before .before .before .before .before .before .before .before .before .before .before .before .if1 .left) short all, ← rest-lent ns 4) (few-more (omega arith) (c .before .before .before .before .put-expanded .ensures))
 
 pub call-r2p-spec : {M : Type 1} → statement M
 call-r2p-spec =

@@ -1,7 +1,8 @@
 -- `calls::prefix_words::put_expanded` meets its contract: the count, the word, and the run as the library left it.
 -- Assumes nothing.
 use borrow.Author.Needs.{needs}
-use Rattle.text.proofs.Puts.{put-then}
+use native.Mathlib.Omega.{arith}
+use Rattle.calls.proofs.Few.{few-text, few-then, few-more}
 use Rattle.calls.proofs.Words.{expanded-is}
 use Rattle.calls.proofs.prefix_words.put_expanded.Statement.{statement}
 use Rattle.calls.proofs.prefix_words.put_expanded.Tie as tie
@@ -29,9 +30,10 @@ same-length-2 c = search needs
 
 returns : tie.Need-returns
 returns c =
-    let made = c .before .before .before .before .before .before .before .before .before .before .before .before .before .before .before .before .range-to-prefixes .ensures in
+    let made = c .before .before .before .before .before .before .before .before .before .before .before .before .before .before .before .before .range-to-prefixes in
+    let size = made .kept .1 .1 .1 .0 in
     let a = c .before .before .before .before .before .before .before .before .before .before .before .before .before .before .before .before .before .before .before .before .args in
-    expanded-is (a .width) (a .low) (a .high) (a .run .now) (made .0) (made .1) (put-then (put-then (c .before .before .before .before .before .before .before .before .before .before .before .before .put-count .ensures) (c .before .before .before .before .before .before .before .put-text .ensures)) (c .before .before .put-all .ensures))
+    few-more (omega arith) (expanded-is (a .width) (a .low) (a .high) (a .run .now) (made .ensures .0) (made .ensures .1) (few-then (few-then (c .before .before .before .before .before .before .before .before .before .before .before .before .put-count .ensures) (few-text 4 (omega arith) (c .before .before .before .before .before .before .before .put-text .ensures))) (c .before .before .put-all .ensures)))
 
 pub put-expanded-spec : {M : Type 1} → statement M
 put-expanded-spec =

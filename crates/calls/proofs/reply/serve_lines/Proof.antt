@@ -1,15 +1,17 @@
--- `calls::reply::serve_lines` meets its contract. At the loop's head the first `next` bytes are replied to; the measure is what is left
--- of them.
+-- `calls::reply::serve_lines` meets its contract. At the loop's head the first `next` bytes are replied to, and there is room for one
+-- more answer; the measure is what is left of the bytes.
 -- Assumes nothing.
 use borrow.Author.Needs.{needs}
 use Prim.Native.Nat.{_≤_, _-_}
-use mathlib.Core.Path.{_≡_, refl, _∙_}
+use mathlib.Core.Path.{_≡_, refl, sym, _∙_}
+use borrow.Author.Tests.{not-false}
 use native.Mathlib.Omega.{arith}
 use lib.ListN.{length, take}
+use Rattle.calls.specs.Few.{answerMost}
 use Rattle.calls.specs.Lines.{heard}
 use Rattle.calls.specs.Replies.{Replied}
 use Rattle.calls.proofs.Serving.{served-on}
-use Rattle.calls.proofs.Replies.{replied-none, replied-more}
+use Rattle.calls.proofs.Replies.{replied-none, replied-more, RoomLeft, room-left-first, room-left-more, none-lost-more, replied-whole}
 use Rattle.calls.proofs.reply.serve_lines.Statement.{statement}
 use Rattle.calls.proofs.reply.serve_lines.Tie as tie
 
@@ -20,12 +22,13 @@ Inv-loop bytes name₀ numbers₀ out₀ present₀ next₀ at₀ name numbers o
     × (length numbers ≡ length numbers₀)
     × (length out ≡ length out₀)
     × Replied (heard present₀ name₀ numbers₀) (take next bytes) out₀ 0 (heard present name numbers) out at
+    × (answerMost ≤ length out₀ → RoomLeft (heard present₀ name₀ numbers₀) (take next bytes) (length out) at)
 
 abbrev μ-loop : tie.MeasureT-loop
 μ-loop bytes name₀ numbers₀ out₀ present₀ next₀ at₀ name numbers out present next at = length bytes - next
 
 loop-holds : tie.Need-loop-holds Inv-loop μ-loop
-loop-holds c = (search needs, refl, refl, refl, replied-none)
+loop-holds c = (search needs, refl, refl, refl, replied-none, room-left-first)
 
 sub-serve-line : tie.Need-sub-serve-line Inv-loop μ-loop
 sub-serve-line c = search needs
@@ -66,10 +69,12 @@ returns c =
     let bytes = test .before .before .before .before .before .before .args .bytes .now in
     let loop = test .before .loop in
     let turn = served-on bytes (loop .next) (test .loop-test .taken) (served .serve-line .ensures .count) in
+    let replied = replied-more bytes (loop .next) (loop .inv .4) (served .serve-line .ensures) in
     record {
       most = turn .1;
       some = λ some. omega arith;
-      replied = replied-more bytes (loop .next) (loop .inv .4) (served .serve-line .ensures);
+      replied = replied;
+      whole = λ enough. replied-whole replied (none-lost-more bytes (loop .next) (loop .inv .4) (loop .inv .5 enough) (served .serve-line .ensures));
     }
 
 loop-less : tie.Need-loop-less Inv-loop μ-loop
@@ -93,6 +98,7 @@ loop-again c =
       served .serve-line .kept .1 .1 .1 .0 ∙ loop .inv .2,
       served .serve-line .kept .1 .1 .1 .1 .0 ∙ loop .inv .3,
       replied-more bytes (loop .next) (loop .inv .4) (served .serve-line .ensures),
+      λ enough. room-left-more (none-lost-more bytes (loop .next) (loop .inv .4) (loop .inv .5 enough) (served .serve-line .ensures)) (sym (c .before .has-room .ensures) ∙ not-false _ (c .if1 .left)),
     )
 
 same-length-4 : tie.Need-same-length-4 Inv-loop μ-loop
@@ -107,7 +113,12 @@ same-length-6 c = search needs
 returns-2 : tie.Need-returns-2 Inv-loop μ-loop
 returns-2 c =
     let loop = c .before .loop in
-    record { most = loop .inv .0; some = λ some. omega arith; replied = loop .inv .4 }
+    record {
+      most = loop .inv .0;
+      some = λ some. omega arith;
+      replied = loop .inv .4;
+      whole = λ enough. replied-whole (loop .inv .4) (loop .inv .5 enough .none-lost);
+    }
 
 pub serve-lines-spec : {M : Type 1} → statement M
 serve-lines-spec =

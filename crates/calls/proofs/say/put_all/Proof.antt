@@ -2,25 +2,26 @@
 -- measure is what is left of them.
 -- Assumes nothing.
 use borrow.Author.Needs.{needs}
-use Prim.Native.Nat.{_≤_, _-_}
+use Prim.Native.Nat.{_≤_, _-_, _*_}
 use native.Mathlib.Omega.{arith}
 use lib.ListN.{length, take}
 use lib.Seq.{take-all}
-use Rattle.text.specs.Puts.{Put}
 use Rattle.calls.specs.Said.{allSpaced}
+use Rattle.calls.specs.Few.{PutFew}
 use Rattle.text.proofs.Puts.{put-no-byte, put-long}
+use Rattle.calls.proofs.Few.{few-text, few-more}
 use Rattle.calls.proofs.Said.{spaced-more}
 use Rattle.calls.proofs.say.put_all.Statement.{statement}
 use Rattle.calls.proofs.say.put_all.Tie as tie
 
 abbrev Inv-loop : tie.InvT-loop
-Inv-loop numbers out₀ at place₀ i₀ out place i = (i ≤ length numbers) × Put out₀ at (allSpaced (take i numbers)) out place
+Inv-loop numbers out₀ at place₀ i₀ out place i = (i ≤ length numbers) × PutFew (21 * i) out₀ at (allSpaced (take i numbers)) out place
 
 abbrev μ-loop : tie.MeasureT-loop
 μ-loop numbers out₀ at place₀ i₀ out place i = length numbers - i
 
 loop-holds : tie.Need-loop-holds Inv-loop μ-loop
-loop-holds c = (search needs, put-no-byte)
+loop-holds c = (search needs, few-text (21 * 0) (omega arith) put-no-byte)
 
 mul-wide : tie.Need-mul-wide Inv-loop μ-loop
 mul-wide c = search needs
@@ -46,13 +47,13 @@ loop-again c =
     (search needs, spaced-more s (c .before .before .before .before .before .before .before .loop .i) (omega arith) (c .before .before .before .before .before .before .before .loop .inv .1) (c .before .before .before .before .wide .ensures) (c .before .before .put-spaced .ensures))
 
 same-length : tie.Need-same-length Inv-loop μ-loop
-same-length c = put-long (c .before .loop .inv .1)
+same-length c = put-long (c .before .loop .inv .1 .puts)
 
 returns : tie.Need-returns Inv-loop μ-loop
 returns c =
     let s = c .before .before .before .before .args .numbers .now in
     let all : length s ≤ c .before .loop .i = omega arith in
-    rw (take-all (c .before .loop .i) s all) at (c .before .loop .inv .1)
+    few-more (omega arith) (rw (take-all (c .before .loop .i) s all) at (c .before .loop .inv .1))
 
 pub put-all-spec : {M : Type 1} → statement M
 put-all-spec =

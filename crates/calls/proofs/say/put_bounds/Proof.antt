@@ -1,7 +1,8 @@
 -- `calls::say::put_bounds` meets its contract, case by case.
 -- Assumes nothing.
 use borrow.Author.Needs.{needs}
-use Rattle.text.proofs.Puts.{put-then}
+use native.Mathlib.Omega.{arith}
+use Rattle.calls.proofs.Few.{few-text, few-then, few-more}
 use Rattle.calls.proofs.say.put_bounds.Statement.{statement}
 use Rattle.calls.proofs.say.put_bounds.Tie as tie
 
@@ -37,7 +38,7 @@ same-length c = search needs
 
 -- a range
 returns : tie.Need-returns
-returns c = rw (c .before .before .before .before .before .before .before .before .before .before .before .before .before .before .bounds .given .1) (put-then (put-then (c .before .before .before .before .before .before .before .before .before .before .put-text .ensures) (c .before .before .before .before .before .before .put-spaced .ensures)) (c .before .before .put-spaced2 .ensures))
+returns c = rw (c .before .before .before .before .before .before .before .before .before .before .before .before .before .before .bounds .given .1) (few-more (omega arith) (few-then (few-then (few-text 2 (omega arith) (c .before .before .before .before .before .before .before .before .before .before .put-text .ensures)) (c .before .before .before .before .before .before .put-spaced .ensures)) (c .before .before .put-spaced2 .ensures)))
 
 same-length-2 : tie.Need-same-length-2
 same-length-2 c = search needs

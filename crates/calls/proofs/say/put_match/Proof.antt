@@ -1,7 +1,8 @@
 -- `calls::say::put_match` meets its contract, case by case.
 -- Assumes nothing.
 use borrow.Author.Needs.{needs}
-use Rattle.text.proofs.Puts.{put-then}
+use native.Mathlib.Omega.{arith}
+use Rattle.calls.proofs.Few.{few-text, few-then, few-more}
 use Rattle.calls.proofs.say.put_match.Statement.{statement}
 use Rattle.calls.proofs.say.put_match.Tie as tie
 
@@ -37,14 +38,14 @@ same-length c = search needs
 
 -- a rule
 returns : tie.Need-returns
-returns c = rw (c .before .before .before .before .before .before .before .before .before .before .found .given .1) (put-then (c .before .before .before .before .before .before .put-text .ensures) (c .before .before .put-spaced .ensures))
+returns c = rw (c .before .before .before .before .before .before .before .before .before .before .found .given .1) (few-more (omega arith) (few-then (few-text 2 (omega arith) (c .before .before .before .before .before .before .put-text .ensures)) (c .before .before .put-spaced .ensures)))
 
 same-length-2 : tie.Need-same-length-2
 same-length-2 c = search needs
 
 -- none
 returns-2 : tie.Need-returns-2
-returns-2 c = rw (c .before .before .before .before .before .enum-told .given .1) (c .before .before .put-text2 .ensures)
+returns-2 c = rw (c .before .before .before .before .before .enum-told .given .1) (few-more (omega arith) (few-text 7 (omega arith) (c .before .before .put-text2 .ensures)))
 
 same-length-3 : tie.Need-same-length-3
 same-length-3 c = search needs

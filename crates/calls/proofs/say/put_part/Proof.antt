@@ -1,7 +1,8 @@
 -- `calls::say::put_part` meets its contract, case by case.
 -- Assumes nothing.
 use borrow.Author.Needs.{needs}
-use Rattle.text.proofs.Puts.{put-then}
+use native.Mathlib.Omega.{arith}
+use Rattle.calls.proofs.Few.{few-text, few-then, few-more}
 use Rattle.calls.proofs.say.put_part.Statement.{statement}
 use Rattle.calls.proofs.say.put_part.Tie as tie
 
@@ -31,7 +32,7 @@ same-length c = search needs
 
 -- a partition
 returns : tie.Need-returns
-returns c = rw (c .before .before .before .before .before .before .before .before .before .before .before .before .before .before .part .given .1) (put-then (put-then (c .before .before .before .before .before .before .before .before .before .before .put-text .ensures) (c .before .before .before .before .before .before .put-spaced .ensures)) (c .before .before .put-spaced2 .ensures))
+returns c = rw (c .before .before .before .before .before .before .before .before .before .before .before .before .before .before .part .given .1) (few-more (omega arith) (few-then (few-then (few-text 2 (omega arith) (c .before .before .before .before .before .before .before .before .before .before .put-text .ensures)) (c .before .before .before .before .before .before .put-spaced .ensures)) (c .before .before .put-spaced2 .ensures)))
 
 same-length-2 : tie.Need-same-length-2
 same-length-2 c = search needs

@@ -1,7 +1,8 @@
 -- `calls::say::put_refused` meets its contract: the word, and three numbers after it.
 -- Assumes nothing.
 use borrow.Author.Needs.{needs}
-use Rattle.text.proofs.Puts.{put-then}
+use native.Mathlib.Omega.{arith}
+use Rattle.calls.proofs.Few.{few-text, few-then}
 use Rattle.calls.proofs.say.put_refused.Statement.{statement}
 use Rattle.calls.proofs.say.put_refused.Tie as tie
 
@@ -27,7 +28,7 @@ same-length : tie.Need-same-length
 same-length c = search needs
 
 returns : tie.Need-returns
-returns c = put-then (put-then (put-then (c .before .before .before .before .before .before .before .before .before .before .before .before .before .before .before .put-text .ensures) (c .before .before .before .before .before .before .before .before .before .before .put-spaced .ensures)) (c .before .before .before .before .before .before .put-spaced2 .ensures)) (c .before .before .put-spaced3 .ensures)
+returns c = few-then (few-then (few-then (few-text 7 (omega arith) (c .before .before .before .before .before .before .before .before .before .before .before .before .before .before .before .put-text .ensures)) (c .before .before .before .before .before .before .before .before .before .before .put-spaced .ensures)) (c .before .before .before .before .before .before .put-spaced2 .ensures)) (c .before .before .put-spaced3 .ensures)
 
 pub put-refused-spec : {M : Type 1} → statement M
 put-refused-spec =

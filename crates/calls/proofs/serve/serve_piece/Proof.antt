@@ -6,7 +6,7 @@ use Prim.Native.Nat.{_≤_, _-_}
 use mathlib.Core.Path.{_≡_, refl, _∙_}
 use native.Mathlib.Omega.{arith}
 use lib.ListN.{length}
-use Rattle.calls.proofs.Serving.{part-long}
+use Rattle.calls.proofs.Lent.{rest-long}
 use Rattle.calls.proofs.serve.serve_piece.Statement.{statement}
 use Rattle.calls.proofs.serve.serve_piece.Tie as tie
 
@@ -37,7 +37,7 @@ add-next c =
     let test = served .before .before .before .before .before in
     let bytes = test .before .before .before .before .before .before .args .bytes .now in
     let loop = test .before .loop in
-    let size = part-long bytes (loop .next) in
+    let size = rest-long bytes (loop .next) in
     let taken = served .serve-lines .ensures in
     let some = taken .some (omega arith) in
     omega (arith, test .before .before .before .before .before .before .good .1 .0 .0)
@@ -63,7 +63,7 @@ loop-less c =
     let test = served .before .before .before .before .before in
     let bytes = test .before .before .before .before .before .before .args .bytes .now in
     let loop = test .before .loop in
-    let size = part-long bytes (loop .next) in
+    let size = rest-long bytes (loop .next) in
     let taken = served .serve-lines .ensures in
     let some = taken .some (omega arith) in
     omega arith
@@ -74,7 +74,7 @@ loop-again c =
     let test = served .before .before .before .before .before in
     let bytes = test .before .before .before .before .before .before .args .bytes .now in
     let loop = test .before .loop in
-    let size = part-long bytes (loop .next) in
+    let size = rest-long bytes (loop .next) in
     let taken = served .serve-lines .ensures in
     let some = taken .some (omega arith) in (
       omega arith,

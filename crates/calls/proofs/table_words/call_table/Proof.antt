@@ -4,6 +4,7 @@ use borrow.Author.Needs.{needs}
 use mathlib.Core.Path.{sym, _∙_}
 use native.Mathlib.Omega.{arith}
 use Rattle.calls.proofs.Parts.{tables-told, tables-asked}
+use Rattle.calls.proofs.Few.{few-more}
 use Rattle.calls.proofs.table_words.call_table.Statement.{statement}
 use Rattle.calls.proofs.table_words.call_table.Tie as tie
 
@@ -27,7 +28,7 @@ same-length c = search needs
 
 -- no such line
 returns : tie.Need-returns
-returns c = rw (← c .before .before .before .before .before .before .before .numbers-after .ensures, sym (c .before .before .before .before .before .before .table-ends .ensures) ∙ c .before .before .before .before .enum-told .given .1) (c .before .before .put-bad .ensures)
+returns c = rw (← c .before .before .before .before .before .before .before .numbers-after .ensures, sym (c .before .before .before .before .before .before .table-ends .ensures) ∙ c .before .before .before .before .enum-told .given .1) (few-more (omega arith) (c .before .before .put-bad .ensures))
 
 add-from : tie.Need-add-from
 add-from c =
@@ -106,7 +107,8 @@ same-length-2 c = search needs
 returns-2 : tie.Need-returns-2
 returns-2 c =
     let ended = c .before .before .before .before .before .before .before .before .before .before .before in
-    rw (← ended .before .numbers-after .ensures, sym (ended .table-ends .ensures) ∙ c .before .before .before .before .before .before .before .before .before .ends .given .1, ← c .before .before .before .before .before .before .before .shape-in .ensures) (c .before .before .put-tabled .ensures)
+    let asked = tables-asked (tables-told _ _ (sym (ended .table-ends .ensures) ∙ c .before .before .before .before .before .before .before .before .before .ends .given .1)) (ended .before .numbers-after .ensures) in
+    rw (← ended .before .numbers-after .ensures, sym (ended .table-ends .ensures) ∙ c .before .before .before .before .before .before .before .before .before .ends .given .1, ← c .before .before .before .before .before .before .before .shape-in .ensures) (few-more (omega (arith, asked .few)) (c .before .before .put-tabled .ensures))
 
 pub call-table-spec : {M : Type 1} → statement M
 call-table-spec =

@@ -1,7 +1,8 @@
 -- `calls::table_words::put_build` meets its contract: the count, the word, and the table as the library left it.
 -- Assumes nothing.
 use borrow.Author.Needs.{needs}
-use Rattle.text.proofs.Puts.{put-then}
+use native.Mathlib.Omega.{arith}
+use Rattle.calls.proofs.Few.{few-text, few-then, few-more}
 use Rattle.calls.proofs.Words.{built-is}
 use Rattle.calls.proofs.table_words.put_build.Statement.{statement}
 use Rattle.calls.proofs.table_words.put_build.Tie as tie
@@ -30,7 +31,8 @@ same-length-2 c = search needs
 returns : tie.Need-returns
 returns c =
     let built = c .before .before .before .before .before .before .before .before .before .before .before .before .before .before .before .before in
-    built-is _ _ (built .build .ensures) (put-then (put-then (c .before .before .before .before .before .before .before .before .before .before .before .before .put-count .ensures) (c .before .before .before .before .before .before .before .put-text .ensures)) (c .before .before .put-table .ensures))
+    let size = built .build .kept .1 .1 .0 in
+    few-more (omega arith) (built-is _ _ (built .build .ensures) (few-then (few-then (c .before .before .before .before .before .before .before .before .before .before .before .before .put-count .ensures) (few-text 6 (omega arith) (c .before .before .before .before .before .before .before .put-text .ensures))) (c .before .before .put-table .ensures)))
 
 pub put-build-spec : {M : Type 1} → statement M
 put-build-spec =
