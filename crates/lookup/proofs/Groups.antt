@@ -30,7 +30,9 @@ use Rattle.sorting.specs.Order.{compare, isAlike}
 use Rattle.sorting.specs.Promise.{InPart, Run, Promise}
 use Rattle.sorting.specs.declared.order.Standing.the-variants.{Alike}
 use Rattle.lists.proofs.Sound.{Sound}
-use Rattle.sorting.proofs.Standings.{compare-none, alike-is, alike-refl, alike-sym, alike-trans, alike-fewer, alike-fields, Under, before-at, convex}
+use Rattle.sorting.proofs.Standings.{alike-is}
+use Rattle.sorting.proofs.Comparing.{compare-none, alike-refl, alike-sym, alike-trans, alike-fewer, alike-fields}
+use Rattle.sorting.proofs.Ordering.{Under, before-at, convex}
 use Rattle.lookup.proofs.Steps.{Trusted}
 
 -- ---- what a promise says of the partitions

@@ -35,7 +35,9 @@ use Rattle.sorting.specs.Promise.{InPart, Promise}
 use Rattle.sorting.specs.declared.order.Standing.the-variants.{Alike}
 use Rattle.sorting.specs.Table.{builtTable}
 use Rattle.lists.proofs.Sound.{Sound, sound-ends}
-use Rattle.sorting.proofs.Standings.{compare-none, alike-is, alike-fields, before-is, before-at, under-before}
+use Rattle.sorting.proofs.Standings.{alike-is, before-is}
+use Rattle.sorting.proofs.Comparing.{compare-none, alike-fields}
+use Rattle.sorting.proofs.Ordering.{before-at, under-before}
 use Rattle.sorting.proofs.Parts.{parts-over, parts-least}
 use Rattle.sorting.proofs.FirstFits.{free-yes, fit-is, first-fit-at}
 use Rattle.sorting.proofs.Reading.{read-parts, table-sized}

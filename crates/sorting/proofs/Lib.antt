@@ -1,7 +1,9 @@
 -- The laws that proofs of this crate and above cite, in the order of the argument.
 --   The order of rules:
--- Standings: how two ranges and two rules stand to each other.
--- Fields: the same, as the code finds it.
+-- Standings: how two ranges stand to each other.
+-- Comparing: how two rules stand to each other by their first fields.
+-- Ordering: which of two rules comes first.
+-- Fields: how two rules stand to each other, as the code finds it.
 --   The choice of partitions:
 -- Parts: how many partitions a run of partition numbers opens.
 -- FirstFits: first fit is a choice of partitions, and each rule gets the lowest that is free.
@@ -32,6 +34,8 @@
 -- Theorems: what a reader may rely on.
 -- Determined: every contract allows one result alone.
 pub mod Standings
+pub mod Comparing
+pub mod Ordering
 pub mod Fields
 pub mod Parts
 pub mod FirstFits
