@@ -22,7 +22,7 @@ use Rattle.lists.specs.Faults.{listFault}
 use Rattle.sorting.specs.Layout.{tableLength}
 use Rattle.sorting.specs.Build.{Built}
 use Rattle.lists.proofs.Sound.{list-shaped}
-use Rattle.sorting.proofs.Building.{fault-none}
+use Rattle.sorting.proofs.BuildFaults.{fault-none}
 use Rattle.gateway.specs.Ready.{shapeRead, listRead, verdictOf, TableMade}
 use Rattle.gateway.specs.declared.rules.Rules.{Rules}
 

@@ -1,11 +1,10 @@
--- Laws of the audit (`specs/Build.antt`): two runs with the same numbers, and the answer of an audit.
---     same-not, same-all                       two runs with the same numbers, number by number
---     same-equal                               they are the same run
+-- Laws of the audit (`specs/Build.antt`): a table is held, number by number, against what the build writes into room of its own.
+--     equal-same, same-equal                   two runs with the same numbers are the same run
 --     table-few, table-room, table-asked       a table of the right length has at most 18,436 numbers
---     table-back, table-count                  what was written into the room for them
+--     table-back, table-count, table-front     what was written into the room for them
 --     audit-yes, audit-no                      the answers
 -- Assumes nothing.
-use Prim.Native.Nat.{ℕ, _*_, _≤_, _<_}
+use Prim.Native.Nat.{ℕ, _*_, _≤_}
 use mathlib.Core.Bool.{true, false}
 use mathlib.Core.List.{List, _++_}
 use mathlib.Core.Path.{_≡_, sym, ap, _∙_}
@@ -14,9 +13,9 @@ use native.Mathlib.Nat.{mul-le-mul}
 use lib.ListN.{length, getD, take, replicate, length-append, length-replicate}
 use lib.Seq.{take-at, length-take-le, ext-getD}
 use lib.Dec.{eqb}
-use borrow.Author.Tests.{eq-eqb, ne-eqb, eqb-true}
+use borrow.Author.Tests.{eq-eqb, eqb-true}
 use Rattle.ranges.specs.declared.refusal.Refusal.{Refusal}
-use Rattle.ranges.proofs.Numbers.{all-yes, all-at, all-no}
+use Rattle.ranges.proofs.Numbers.{all-yes, all-at}
 use Rattle.lists.specs.Rules.{Rules, fieldsOf, rulesIn}
 use Rattle.sorting.specs.Layout.{tableLength}
 use Rattle.sorting.specs.Table.{builtTable}
@@ -28,12 +27,10 @@ use Rattle.sorting.proofs.Reading.{table-sized}
 
 -- ---- two runs with the same numbers
 module _ (a b : List ℕ) where
-  pub same-not : (k : ℕ) → k < length a → (getD a k 0 ≡ getD b k 0 → ⊥) → sameNumbers a b ≡ false
-  same-not k lt ne = all-no (λ k. eqb (getD a k 0) (getD b k 0)) (length a) k lt (ne-eqb (getD a k 0) (getD b k 0) ne)
-
-  pub same-all : (k : ℕ) → length a ≤ k → ((j : ℕ) → j < k → getD a j 0 ≡ getD b j 0) → sameNumbers a b ≡ true
-  same-all k over same =
-      all-yes (λ k. eqb (getD a k 0) (getD b k 0)) (length a) (λ j l. eq-eqb (getD a j 0) (getD b j 0) (same j (omega arith)))
+  -- they are the same run, and only they
+  pub equal-same : a ≡ b → sameNumbers a b ≡ true
+  equal-same e =
+      all-yes (λ k. eqb (getD a k 0) (getD b k 0)) (length a) (λ k l. eq-eqb (getD a k 0) (getD b k 0) (ap (λ c. getD c k 0) e))
 
   pub same-equal : length a ≡ length b → sameNumbers a b ≡ true → a ≡ b
   same-equal long same =

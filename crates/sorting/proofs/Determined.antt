@@ -2,7 +2,7 @@
 -- contract is one equation, `r ≡ ..`, and one for the table. `Learnt` is what a caller learns of a call, as the checker reads it off the
 -- contract's `ensures`; `ps` and `r` are its parameters' and its result's types.
 -- Assumes nothing.
-use mathlib.Core.Path.{_≡_, sym, _∙_}
+use mathlib.Core.Path.{sym, _∙_}
 use denote.Ref.{now}
 use Rattle.ranges.proofs.OneAnswer.{OneAnswer, OneRun}
 use Rattle.sorting.proofs.layout.table_length.Kinds as table-length-kinds

@@ -2,7 +2,7 @@
 -- member, and first fit is a choice without clashes and gaps.
 -- A partition that no earlier rule uses is free, so a rule's number is never past the first unused one: there are no gaps, and
 -- never more partitions than rules.
---     free-yes, free-no, free-clear, free-full           a partition is free for a rule: no earlier member clashes
+--     free-yes, free-clear, free-full                    a partition is free for a rule: no earlier member clashes
 --     fit-is, fit-free, fit-under, fit-least             the lowest-numbered partition that is free
 --     first-fit-length, first-fit-more, first-fit-at     first fit, rule after rule
 --     first-fit-same                                     of more rules: the numbers of the first ones stay
@@ -21,8 +21,8 @@ use lib.ListN.{length, getD, length-append, List·getD-append}
 use lib.Seq.{getD-at}
 use lib.Dec.{ltb, eqb}
 use borrow.Author.Tests.{eq-eqb, eqb-true, ltb-true, ltb-false, not-true, not-false}
-use Rattle.ranges.specs.Numbers.{_and_, all}
-use Rattle.ranges.proofs.Numbers.{never, true-not-false, and-left, and-right, all-yes, all-at, all-no, all-some, all-same, least-is, least-hit, least-under, least-same}
+use Rattle.ranges.specs.Numbers.{_and_}
+use Rattle.ranges.proofs.Numbers.{true-not-false, and-left, and-right, all-yes, all-at, all-some, all-same, least-is, least-hit, least-under, least-same}
 use Rattle.lists.specs.Rules.{Rules, rulesIn}
 use Rattle.sorting.specs.Order.{clash}
 use Rattle.sorting.specs.FirstFit.{partOf, free, fitOf, firstFit, parts, Choice}
@@ -40,10 +40,6 @@ clear-yes x q t h = go (eqb x q) refl
 module _ (R : Rules) (run : List ℕ) (i q : ℕ) where
   pub free-yes : ((j : ℕ) → j < i → partOf run j ≡ q → clash R j i ≡ false) → free R run i q ≡ true
   free-yes h = all-yes (λ j. not (eqb (partOf run j) q and clash R j i)) i (λ j l. clear-yes (partOf run j) q (clash R j i) (h j l))
-
-  pub free-no : (j : ℕ) → j < i → partOf run j ≡ q → clash R j i ≡ true → free R run i q ≡ false
-  free-no j lt is clashes =
-      all-no (λ j. not (eqb (partOf run j) q and clash R j i)) i j lt (rw (eq-eqb (partOf run j) q is, clashes))
 
   pub free-clear : free R run i q ≡ true → (j : ℕ) → j < i → partOf run j ≡ q → clash R j i ≡ false
   free-clear e j lt is =

@@ -11,22 +11,28 @@
 -- Choosing: the loop that takes one rule after the other.
 --   The table:
 -- Offsets: every part of a table lies within it.
--- Places: the place of a rule, the rule at a place, the starts.
+-- Places: the place of a rule, the rule at a place.
+-- Starts: what stands between two starts is one partition.
 -- Runs: the stretch of places that a run is, and its ends by neighbouring places.
 -- Reading: what is read of the table of a list and a run of partition numbers.
 -- Kept: the table of any choice of partitions keeps the promise.
 -- Built: the table that the build writes keeps the promise.
 --   Writing it:
--- Ranks: the loops that count, and each rule at its place.
+-- Tally: loops that count.
+-- Ranks: the loop that writes each rule at its place.
 -- Putting: numbers written into a table from a place on.
 -- Rows: the runs by neighbouring places, a row of fields at a time.
+-- Restarting: a row with one number from a field on.
 -- RowByRow: the loops that write the runs, a row of fields at a time.
 -- Laid: the parts of a table, written one after the other, are the whole table.
--- Building: which of 1 to 5 a list and a table meet, and what is written where they meet none.
+-- BuildFaults: which of 1 to 5 a list and a table meet.
+-- Building: what a build writes where they meet none.
 --   Reading it:
 -- Opening: which refusal an opening meets, and what a table is that opens.
--- Auditing: two runs with the same numbers, and the answer of an audit.
--- Reporting: the report on a partition, as the code works it out.
+-- Auditing: a table held against what the build writes.
+-- Minimum: the smallest of several numbers.
+-- PartPlaces: the starts and places of a partition, as the code reads them.
+-- Reporting: the refusals and the answer of a report.
 -- Reports: what a report says of the table of any choice of partitions.
 --   What comes of it:
 -- Answers: what an audit's and a report's answers say tells them apart.
@@ -43,18 +49,24 @@ pub mod Stamps
 pub mod Choosing
 pub mod Offsets
 pub mod Places
+pub mod Starts
 pub mod Runs
 pub mod Reading
 pub mod Kept
 pub mod Built
+pub mod Tally
 pub mod Ranks
 pub mod Putting
 pub mod Rows
+pub mod Restarting
 pub mod RowByRow
 pub mod Laid
+pub mod BuildFaults
 pub mod Building
 pub mod Opening
 pub mod Auditing
+pub mod Minimum
+pub mod PartPlaces
 pub mod Reporting
 pub mod Reports
 pub mod Answers

@@ -1,9 +1,11 @@
--- Laws of the opening (`specs/Opening.antt`): which outcome each test gives, and what a table is that opens.
---     head-read, start-read                                          what is read of a table of the right length
---     opening-n, opening-d, opening-b, first-wrong, last-read         the tests in their order
---     open-shape, open-length, open-broken, open-stands              1 to 3, 5, 6 for the opening, none of them
---     by-shape, by-length, by-broken, by-stands                      the same, as the code works it out
---     Opened, opened                                                 a list and a table that meet none of 1, 2, 3, 5 and the opening's 6
+-- Laws of the opening (`specs/Opening.antt`): the outcome of each test, and back from no refusal to what each test found.
+--     head-read, start-read                                   what is read of a table of the right length
+--     opening-n, opening-d, opening-b, opening-first, opening-last      the tests in their order
+--     first-wrong, last-read                                  the last two, of a table
+--     open-length, open-broken, open-stands                   5, 6 for the opening, none of 1, 2, 3, 5 and 6
+--     Opened, opened, opened-none                             a list and a table that meet none of them
+--     open-few                                                the number of an opening's refusal is at most 6
+--     open-by-length, open-by-broken, open-by-stands          the refusals, as the code works them out
 -- Assumes nothing.
 use Prim.Native.Nat.{ℕ, _≤_, _<_}
 use mathlib.Core.Bool.{Bool, true, false}
@@ -19,7 +21,7 @@ use Rattle.ranges.specs.declared.refusal.Refusal.{Refusal}
 use Rattle.ranges.proofs.Numbers.{true-not-false, and-left, and-right}
 use Rattle.lists.specs.Rules.{Rules, fieldsOf, rulesIn, Shaped}
 use Rattle.lists.specs.Faults.{shapeFault}
-use Rattle.lists.proofs.Faults.{shaped}
+use Rattle.lists.proofs.Faults.{shape-few, shape-stands, shaped}
 use Rattle.sorting.specs.Layout.{View, view, TableFor, tableLength, startAt}
 use Rattle.sorting.proofs.Offsets.{opening-inside, start-inside}
 use Rattle.sorting.specs.Opening.{opening, viewOf, openFault}
@@ -78,10 +80,6 @@ pub record Opened (R : Rules) (T : List ℕ) : Type 0 where
   pub last-start : viewOf R T .start (viewOf R T .b) ≡ rulesIn R
 
 module _ (R : Rules) (T : List ℕ) where
-  pub open-shape : (shapeFault R .number ≡ 0 → ⊥) → openFault R T ≡ shapeFault R
-  unfolding openFault
-  open-shape ne = rw (ne-eqb (shapeFault R .number) 0 ne)
-
   pub open-length : shapeFault R .number ≡ 0 → (length T ≡ tableLength (rulesIn R) (fieldsOf R) → ⊥) → openFault R T ≡ refused BadTableLength
   unfolding openFault
   open-length z ne = rw (eq-eqb (shapeFault R .number) 0 z, ne-eqb (length T) (tableLength (rulesIn R) (fieldsOf R)) ne)
@@ -134,30 +132,47 @@ opened R T = go (eqb (shapeFault R .number) 0) refl (eqb (length T) (tableLength
     go true p true q true r z =
         opened-view R T (shaped R (eqb-true (shapeFault R .number) 0 p)) (eqb-true (length T) (tableLength (rulesIn R) (fieldsOf R)) q) r
 
--- ---- as the code works it out: x is the shape's refusal, and m the number of rules
-module _ (R : Rules) (x : Refusal) (is-x : x ≡ shapeFault R) where
-  pub by-shape : (T : List ℕ) → (x .number ≡ 0 → ⊥) → x ≡ openFault R T
-  by-shape T ne = is-x ∙ sym (open-shape R T (λ z. ne (rw is-x z)))
+-- a list and a table that open meet none of the opening's refusals
+pub opened-none : {R : Rules} {T : List ℕ} → Opened R T → openFault R T ≡ none
+unfolding opening
+opened-none {R} {T} h =
+    let v = viewOf R T in
+    let s = h .shape-stands in
+    let shape = shape-stands R (s .some-fields) (s .few-fields) (sym (s .whole)) (s .few-rules) in
+    open-stands R T (ap (λ (x : Refusal). x .number) shape) (h .sized .long)
+    (rw (
+      eq-eqb (v .n) (rulesIn R) (h .rules),
+      eq-eqb (v .d) (fieldsOf R) (h .fields),
+      le-leb (v .b) (rulesIn R) (h .few-parts),
+      eq-eqb (v .start 0) 0 (h .first-start),
+      eq-eqb (v .start (v .b)) (rulesIn R) (h .last-start),
+    ))
 
-  module _ (z : x .number ≡ 0) where
-    pub by-shaped : Shaped R
-    by-shaped = shaped R (rw is-x at z)
+-- the opening refuses by 1, 2, 3, 5 and 6 alone
+pub open-few : (R : Rules) (T : List ℕ) → openFault R T .number ≤ 6
+unfolding openFault
+open-few R T = go (stands (shapeFault R)) (eqb (length T) (tableLength (rulesIn R) (fieldsOf R))) (opening (rulesIn R) (fieldsOf R) (viewOf R T))
+  where
+    go : (a e g : Bool) → (pick a (orElse (pick e none (refused BadTableLength)) (pick g none (refused BrokenTable))) (shapeFault R)) .number ≤ 6
+    go false e g = omega (arith, shape-few R)
+    go true false g = omega arith
+    go true true true = omega arith
+    go true true false = omega arith
 
-    module _ (m : ℕ) (is-m : m ≡ rulesIn R) where
-      pub by-few : m ≤ 1024
-      by-few = omega (arith, by-shaped .few-rules, is-m)
+-- ---- as the code works it out: x is the shape's refusal, m the number of rules, k the table's length that they want
+module _ (R : Rules) (x : Refusal) (is-x : x ≡ shapeFault R) (z : x .number ≡ 0) (m : ℕ) (is-m : m ≡ rulesIn R) (T : List ℕ) (k : ℕ)
+    (is-k : k ≡ tableLength m (fieldsOf R)) where
+  shape-fine : shapeFault R .number ≡ 0
+  shape-fine = rw is-x at z
 
-      -- the table's length as worked out is the right one
-      k-is : (k : ℕ) → k ≡ tableLength m (fieldsOf R) → k ≡ tableLength (rulesIn R) (fieldsOf R)
-      k-is k is-k = rw is-m at is-k
+  wanted-is : k ≡ tableLength (rulesIn R) (fieldsOf R)
+  wanted-is = rw is-m at is-k
 
-      pub by-length : (T : List ℕ) (k : ℕ) → k ≡ tableLength m (fieldsOf R) → (length T ≡ k → ⊥) → openFault R T ≡ refused BadTableLength
-      by-length T k is-k ne = open-length R T (rw is-x at z) (λ e. ne (e ∙ sym (k-is k is-k)))
+  pub open-by-length : (length T ≡ k → ⊥) → openFault R T ≡ refused BadTableLength
+  open-by-length ne = open-length R T shape-fine (λ e. ne (e ∙ sym wanted-is))
 
-      pub by-broken : (T : List ℕ) (k : ℕ) → k ≡ tableLength m (fieldsOf R) → length T ≡ k → opening m (fieldsOf R) (view m (fieldsOf R) T) ≡ false
-          → openFault R T ≡ refused BrokenTable
-      by-broken T k is-k e shut = open-broken R T (rw is-x at z) (e ∙ k-is k is-k) (rw is-m at shut)
+  pub open-by-broken : length T ≡ k → opening m (fieldsOf R) (view m (fieldsOf R) T) ≡ false → openFault R T ≡ refused BrokenTable
+  open-by-broken e shut = open-broken R T shape-fine (e ∙ wanted-is) (rw is-m at shut)
 
-      pub by-stands : (T : List ℕ) (k : ℕ) → k ≡ tableLength m (fieldsOf R) → length T ≡ k → opening m (fieldsOf R) (view m (fieldsOf R) T) ≡ true
-          → openFault R T ≡ none
-      by-stands T k is-k e fine = open-stands R T (rw is-x at z) (e ∙ k-is k is-k) (rw is-m at fine)
+  pub open-by-stands : length T ≡ k → opening m (fieldsOf R) (view m (fieldsOf R) T) ≡ true → openFault R T ≡ none
+  open-by-stands e fine = open-stands R T shape-fine (e ∙ wanted-is) (rw is-m at fine)

@@ -40,13 +40,13 @@ module _ (run : List ℕ) where
       omega arith
 
 -- a choice of b partitions opens b: its numbers are below b, and the last of them is used
-opens : (R : Rules) (run : List ℕ) (b : ℕ) → Choice R run b → parts run (rulesIn R) ≡ b
-opens R run zero c = let few = parts-least run (rulesIn R) 0 (c .below) in omega arith
-opens R run (suc b) c =
+all-opened : (R : Rules) (run : List ℕ) (b : ℕ) → Choice R run b → parts run (rulesIn R) ≡ b
+all-opened R run zero c = let few = parts-least run (rulesIn R) 0 (c .below) in omega arith
+all-opened R run (suc b) c =
     let few = parts-least run (rulesIn R) (suc b) (c .below) in
     let last = c .used b (omega arith) in
     let many = parts-over run (rulesIn R) (last .0) (last .1) in
     omega (arith, many, last .2)
 
 pub choice-parts : {R : Rules} {run : List ℕ} {b : ℕ} → Choice R run b → parts run (rulesIn R) ≡ b
-choice-parts {R} {run} {b} c = opens R run b c
+choice-parts {R} {run} {b} c = all-opened R run b c

@@ -4,7 +4,7 @@
 --     read-order, read-start                     the rule at a place; the first place of a partition
 --     read-from, read-to                         the ends of a run
 --     by-place-length, by-place-at               a part that stands place by place, field by field
---     order-long, starts-long, froms-long        the table up to a part's end
+--     to-order-long, to-starts-long, to-froms-long        the table up to a part's end
 -- Assumes nothing.
 use Prim.Native.Nat.{ℕ, _+_, _*_, _/_, _%_, _≤_, _<_}
 use mathlib.Core.List.{List, [], _∷_, _++_}
@@ -68,40 +68,37 @@ module _ (R : Rules) (run : List ℕ) where
   unfolding tableOf
   table-parts = refl
 
-  pub order-long : length (toOrder R run) ≡ 3 + rulesIn R
-  order-long = both-long (toHead R run) (tab (rulesIn R) (ruleAt R run)) 3 refl (rulesIn R) (tab-length (ruleAt R run) (rulesIn R))
+  pub to-order-long : length (toOrder R run) ≡ 3 + rulesIn R
+  to-order-long = both-long (toHead R run) (tab (rulesIn R) (ruleAt R run)) 3 refl (rulesIn R) (tab-length (ruleAt R run) (rulesIn R))
 
-  pub starts-long : length (toStarts R run) ≡ 4 + rulesIn R * 2
-  starts-long =
-      let long = both-long (toOrder R run) (tab (rulesIn R + 1) (startOf R run)) (3 + rulesIn R) order-long (rulesIn R + 1) (tab-length (startOf R run) (rulesIn R + 1)) in
+  pub to-starts-long : length (toStarts R run) ≡ 4 + rulesIn R * 2
+  to-starts-long =
+      let long = both-long (toOrder R run) (tab (rulesIn R + 1) (startOf R run)) (3 + rulesIn R) to-order-long (rulesIn R + 1) (tab-length (startOf R run) (rulesIn R + 1)) in
       omega arith
 
-  pub froms-long : length (toFroms R run) ≡ 4 + rulesIn R * 2 + rulesIn R * fieldsOf R
-  froms-long =
-      both-long (toStarts R run) (byPlace R (runFrom R run)) (4 + rulesIn R * 2) starts-long (rulesIn R * fieldsOf R) (by-place-length R (runFrom R run))
+  pub to-froms-long : length (toFroms R run) ≡ 4 + rulesIn R * 2 + rulesIn R * fieldsOf R
+  to-froms-long =
+      both-long (toStarts R run) (byPlace R (runFrom R run)) (4 + rulesIn R * 2) to-starts-long (rulesIn R * fieldsOf R) (by-place-length R (runFrom R run))
 
   -- what stands before the run-tos, the run-froms, the starts
   in-froms : (at : ℕ) → at < 4 + rulesIn R * 2 + rulesIn R * fieldsOf R → getD (tableOf R run) at 0 ≡ getD (toFroms R run) at 0
   unfolding tableOf
-  in-froms at lt = within (toFroms R run) (byPlace R (runTo R run)) (4 + rulesIn R * 2 + rulesIn R * fieldsOf R) froms-long at lt
+  in-froms at lt = within (toFroms R run) (byPlace R (runTo R run)) (4 + rulesIn R * 2 + rulesIn R * fieldsOf R) to-froms-long at lt
 
   in-starts : (at : ℕ) → at < 4 + rulesIn R * 2 → getD (tableOf R run) at 0 ≡ getD (toStarts R run) at 0
   in-starts at lt =
-      in-froms at (omega arith) ∙ within (toStarts R run) (byPlace R (runFrom R run)) (4 + rulesIn R * 2) starts-long at lt
+      in-froms at (omega arith) ∙ within (toStarts R run) (byPlace R (runFrom R run)) (4 + rulesIn R * 2) to-starts-long at lt
 
   in-order : (at : ℕ) → at < 3 + rulesIn R → getD (tableOf R run) at 0 ≡ getD (toOrder R run) at 0
   in-order at lt =
-      in-starts at (omega arith) ∙ within (toOrder R run) (tab (rulesIn R + 1) (startOf R run)) (3 + rulesIn R) order-long at lt
+      in-starts at (omega arith) ∙ within (toOrder R run) (tab (rulesIn R + 1) (startOf R run)) (3 + rulesIn R) to-order-long at lt
 
   -- ---- the parts
-  tos-long : length (toFroms R run ++ byPlace R (runTo R run)) ≡ 4 + rulesIn R * 2 + rulesIn R * fieldsOf R + rulesIn R * fieldsOf R
-  tos-long =
-      let tos = byPlace R (runTo R run) in
-      both-long (toFroms R run) tos (4 + rulesIn R * 2 + rulesIn R * fieldsOf R) froms-long (rulesIn R * fieldsOf R) (by-place-length R (runTo R run))
-
   table-long : length (tableOf R run) ≡ tableLength (rulesIn R) (fieldsOf R)
   unfolding tableOf tableLength
-  table-long = omega (arith, tos-long)
+  table-long =
+      let n-froms = 4 + rulesIn R * 2 + rulesIn R * fieldsOf R in
+      omega (arith, both-long (toFroms R run) (byPlace R (runTo R run)) n-froms to-froms-long (rulesIn R * fieldsOf R) (by-place-length R (runTo R run)))
 
   pub table-sized : TableFor (rulesIn R) (fieldsOf R) (tableOf R run)
   table-sized = record { long = table-long }
@@ -129,7 +126,7 @@ module _ (R : Rules) (run : List ℕ) where
   unfolding startAt
   read-start q le =
       in-starts (3 + rulesIn R + q) (omega arith)
-      ∙ past (toOrder R run) (tab (rulesIn R + 1) (startOf R run)) (3 + rulesIn R) order-long q (3 + rulesIn R + q) refl
+      ∙ past (toOrder R run) (tab (rulesIn R + 1) (startOf R run)) (3 + rulesIn R) to-order-long q (3 + rulesIn R + q) refl
       ∙ tab-at (startOf R run) (rulesIn R + 1) q (omega arith)
 
   pub read-from : (p f : ℕ) → p < rulesIn R → f < fieldsOf R → viewOf R (tableOf R run) .from p f ≡ runFrom R run p f
@@ -138,7 +135,7 @@ module _ (R : Rules) (run : List ℕ) where
       let cell = p * fieldsOf R + f in
       let at = 4 + rulesIn R * 2 + cell in
       in-froms at (omega (arith, row-inside (fieldsOf R) p (rulesIn R) f is-p in-row))
-      ∙ past (toStarts R run) (byPlace R (runFrom R run)) (4 + rulesIn R * 2) starts-long cell at refl
+      ∙ past (toStarts R run) (byPlace R (runFrom R run)) (4 + rulesIn R * 2) to-starts-long cell at refl
       ∙ by-place-at R (runFrom R run) p f is-p in-row
 
   pub read-to : (p f : ℕ) → p < rulesIn R → f < fieldsOf R → viewOf R (tableOf R run) .to p f ≡ runTo R run p f
@@ -146,4 +143,4 @@ module _ (R : Rules) (run : List ℕ) where
   read-to p f is-p in-row =
       let cell = p * fieldsOf R + f in
       let n-froms = 4 + rulesIn R * 2 + rulesIn R * fieldsOf R in
-      past (toFroms R run) (byPlace R (runTo R run)) n-froms froms-long cell (n-froms + cell) refl ∙ by-place-at R (runTo R run) p f is-p in-row
+      past (toFroms R run) (byPlace R (runTo R run)) n-froms to-froms-long cell (n-froms + cell) refl ∙ by-place-at R (runTo R run) p f is-p in-row

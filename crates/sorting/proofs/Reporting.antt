@@ -1,113 +1,34 @@
--- Laws of the report on a partition (`specs/Report.antt`), as the code works it out.
---     start-here, start-after, place-in          the starts and places of a partition stand in the table
---     part-not, part-test, part-size             a partition's starts
---     rules-read, rules-not, rules-all           its rule numbers, place by place
---     least-none, least-more, least-all          the smallest of them
---     fault-starts, fault-rules, fault-fine      6 for a partition
---     report-open, report-7, report-part, Reported, reported      the refusals of a report, and what is not refused
---     by-open, by-opened, by-7, by-part, by-reported, by-answer   the same, as the code works it out
---     smallest-le, smallest-at, Smallest, reported-least      the smallest of several numbers, and of a partition's rules
---     report-none, seven-how, part-ends, rules-below      what is not refused, and 7
---     part-within                                what a partition is that is not broken by its starts
+-- Laws of the report on a partition (`specs/Report.antt`): its refusals, and what it answers where none applies.
+--     fault-starts, fault-rules, fault-fine          6 for a partition
+--     report-7, report-part, seven-how               7, and what comes after it
+--     Reported, reported, report-none                a list, a table and a partition that meet no refusal
+--     opened-part                                    a partition of a table that opens
+--     opened-told, report-by-7, report-by-part       the refusals, as the code works them out
+--     reported-told, reported-few, reported-within, report-by-answer      the answer, as the code works it out
+--     part-ends, rules-below                         the partition has a place, and its rule numbers are below n
+--     Smallest, reported-least, report-answers       the smallest of these; the answer
 -- Assumes nothing.
-use Prim.Native.Nat.{ℕ, zero, suc, min, _+_, _-_, _≤_, _<_}
+use Prim.Native.Nat.{ℕ, suc, _+_, _-_, _≤_, _<_}
 use mathlib.Core.Bool.{Bool, true, false}
 use mathlib.Core.List.{List}
 use mathlib.Core.Path.{_≡_, refl, sym, ap, _∙_, subst}
-use mathlib.Core.Logic.{_⊎_, inl, inr, ⊎-elim}
 use native.Mathlib.Omega.{arith}
-use native.Mathlib.Nat.{eq-or-lt-of-le, le-of-suc-le-suc}
-use native.Mathlib.Numerals.{add-one}
-use lib.ListN.{length}
-use lib.Dec.{ltb, leb, eqb}
-use borrow.Author.Tests.{lt-ltb, le-ltb, le-leb, eq-eqb, ne-eqb, ltb-true, ltb-false, leb-true, eqb-true}
-use Rattle.ranges.specs.Numbers.{pick, _and_, all}
-use Rattle.ranges.specs.Refusals.{none, refused, orElse, stands, BadTableLength, BrokenTable, NoSuchPartition}
+use lib.Dec.{ltb, leb}
+use borrow.Author.Tests.{lt-ltb, le-ltb, eq-eqb, ltb-true, ltb-false, eqb-true}
+use Rattle.ranges.specs.Numbers.{pick, _and_}
+use Rattle.ranges.specs.Refusals.{none, refused, stands, BrokenTable, NoSuchPartition}
 use Rattle.ranges.specs.declared.refusal.Refusal.{Refusal}
-use Rattle.ranges.proofs.Numbers.{true-not-false, and-left, and-right, all-yes, all-at, all-no}
+use Rattle.ranges.proofs.Numbers.{true-not-false, and-left, all-at}
 use Rattle.lists.specs.Rules.{Rules, fieldsOf, rulesIn}
-use Rattle.lists.specs.Faults.{shapeFault}
-use Rattle.lists.proofs.Faults.{shape-few, shape-stands}
-use Rattle.sorting.specs.Layout.{View, tableLength, orderAt, startAt}
-use Rattle.sorting.specs.Opening.{opening, partStands, viewOf, openFault}
+use Rattle.sorting.specs.Layout.{View}
+use Rattle.sorting.specs.Opening.{partStands, viewOf, openFault}
 use Rattle.sorting.specs.Asked.{PartOf, PartWithin}
-use Rattle.sorting.specs.Report.{smallest, placesIn, sizeOf, rulesStand, leastRule, partFault, reportFault, reportOf}
+use Rattle.sorting.specs.Report.{placesIn, sizeOf, rulesStand, leastRule, partFault, reportFault, reportOf}
 use Rattle.sorting.specs.declared.report.Part.the-variants.{Is}
 use Rattle.sorting.proofs.Offsets.{order-inside, start-inside}
-use Rattle.sorting.proofs.Opening.{Opened, opened, open-stands}
-
--- ---- where a partition stands in the table
-module _ {n : ℕ} {T : List ℕ} {q : ℕ} (of : PartOf n T q) where
-  pub start-here : startAt n q < length T
-  start-here = of .starts q (omega (arith, of .part))
-
-  pub start-after : startAt n (q + 1) < length T
-  start-after = of .starts (q + 1) (omega (arith, of .part))
-
--- ---- a partition's starts, s and e as read
-module _ (n : ℕ) (T : List ℕ) (q s e : ℕ) (is-s : s ≡ placesIn n T .start q) (is-e : e ≡ placesIn n T .start (q + 1)) where
-  next-start : e ≡ placesIn n T .start (suc q)
-  next-start = is-e ∙ ap (placesIn n T .start) (add-one q)
-
-  pub part-not : e ≤ s → partStands n (placesIn n T) q ≡ false
-  part-not le = rw (← is-s, ← next-start, le-ltb s e le)
-
-  pub part-test : s < e → partStands n (placesIn n T) q ≡ leb e n
-  part-test lt = rw (← is-s, ← next-start, lt-ltb s e lt)
-
-  pub part-size : e - s ≡ sizeOf (placesIn n T) q
-  part-size = rw (is-s, next-start)
-
-  pub size-fits : PartWithin n T q → s ≤ e
-  size-fits h = omega (arith, is-s, next-start, h .ascend)
-
--- a partition that is not broken by its starts
-pub part-within : {n : ℕ} {T : List ℕ} {q : ℕ} → PartOf n T q → partStands n (placesIn n T) q ≡ true → PartWithin n T q
-part-within {n} {T} {q} of e =
-    let s = placesIn n T .start q in
-    let t = placesIn n T .start (suc q) in
-    record {
-      of = of;
-      ascend = ltb-true s t (and-left (ltb s t) (leb t n) e);
-      within = leb-true t n (and-right (ltb s t) (leb t n) e);
-    }
-
--- ---- its places: s its start, m how many
-module _ {n : ℕ} {T : List ℕ} {q : ℕ} (h : PartWithin n T q) {s m : ℕ} (is-s : s ≡ placesIn n T .start q) (is-m : m ≡ sizeOf (placesIn n T) q) where
-  pub place-few : s + m ≤ n
-  place-few = omega (arith, is-s, is-m, h .ascend, h .within)
-
-  pub place-in : (k : ℕ) → k < m → orderAt (s + k) < length T
-  place-in k lt = h .of .places (s + k) (omega (arith, place-few))
-
-  rules-are : all m (λ k. ltb (placesIn n T .order (s + k)) n) ≡ rulesStand n (placesIn n T) q
-  rules-are = rw (is-s, is-m)
-
-  -- some rule number is n or more
-  pub rules-not : {k : ℕ} → k < m → n ≤ placesIn 0 T .order (s + k) → rulesStand n (placesIn n T) q ≡ false
-  rules-not {k} lt many =
-      sym rules-are ∙ all-no (λ k. ltb (placesIn n T .order (s + k)) n) m k lt (le-ltb (placesIn n T .order (s + k)) n many)
-
-  -- every one is below n
-  pub rules-all : {k : ℕ} → m ≤ k → ((j : ℕ) → j < k → placesIn n T .order (s + j) < n) → rulesStand n (placesIn n T) q ≡ true
-  rules-all {k} over few =
-      sym rules-are
-      ∙ all-yes (λ k. ltb (placesIn n T .order (s + k)) n) m (λ j l. lt-ltb (placesIn n T .order (s + j)) n (few j (omega arith)))
-
-  -- the smallest
-  pub least-all : {k x : ℕ} → k ≤ m → m ≤ k → x ≡ smallest (λ j. placesIn n T .order (s + j)) n k → x ≡ leastRule n (placesIn n T) q
-  least-all {k} {x} le over is =
-      let all-of : k ≡ m = omega arith in
-      is ∙ ap (smallest (λ j. placesIn n T .order (s + j)) n) all-of ∙ rw (is-s, is-m)
-
-module _ (g : ℕ → ℕ) (x : ℕ) where
-  pub least-none : x ≡ smallest g x 0
-  unfolding smallest
-  least-none = refl
-
-  pub least-more : {k y : ℕ} → y ≡ smallest g x k → (z : ℕ) → z ≡ g k → {r : ℕ} → r ≡ min y z → r ≡ smallest g x (k + 1)
-  unfolding smallest
-  least-more {k} {y} is z is-z is-r = is-r ∙ rw (is, is-z, add-one)
+use Rattle.sorting.proofs.Opening.{Opened, opened, opened-none, open-few}
+use Rattle.sorting.proofs.Minimum.{smallest-le, smallest-at}
+use Rattle.sorting.proofs.PartPlaces.{part-within}
 
 -- ---- 6 for a partition
 module _ (n : ℕ) (v : View) (q : ℕ) where
@@ -125,10 +46,6 @@ module _ (n : ℕ) (v : View) (q : ℕ) where
 
 -- ---- the refusals of a report
 module _ (R : Rules) (T : List ℕ) (q : ℕ) where
-  pub report-open : (openFault R T .number ≡ 0 → ⊥) → reportFault R T q ≡ openFault R T
-  unfolding reportFault
-  report-open ne = rw (ne-eqb (openFault R T .number) 0 ne)
-
   pub report-7 : openFault R T .number ≡ 0 → viewOf R T .b ≤ q → reportFault R T q ≡ refused NoSuchPartition
   unfolding reportFault
   report-7 z many = rw (eq-eqb (openFault R T .number) 0 z, le-ltb q (viewOf R T .b) many)
@@ -166,8 +83,8 @@ reported R T q =
         }
 
 -- a partition of a table that opens, m rules as worked out
-pub part-of : {R : Rules} {T : List ℕ} {q m : ℕ} → Opened R T → q < viewOf R T .b → m ≡ rulesIn R → PartOf m T q
-part-of {R} {T} {q} {m} opens few is-m =
+pub opened-part : {R : Rules} {T : List ℕ} {q m : ℕ} → Opened R T → q < viewOf R T .b → m ≡ rulesIn R → PartOf m T q
+opened-part {R} {T} {q} {m} opens few is-m =
     record {
       few-rules = omega (arith, opens .shape-stands .few-rules);
       part = omega (arith, opens .few-parts);
@@ -176,106 +93,38 @@ part-of {R} {T} {q} {m} opens few is-m =
     }
 
 -- ---- as the code works it out: x is the opening's refusal
-module _ (R : Rules) (T : List ℕ) (q : ℕ) (x : Refusal) (is-x : x ≡ openFault R T) where
-  pub by-open : (x .number ≡ 0 → ⊥) → x ≡ reportFault R T q
-  by-open ne = is-x ∙ sym (report-open R T q (λ z. ne (rw is-x z)))
+module _ (R : Rules) (T : List ℕ) (q : ℕ) (x : Refusal) (is-x : x ≡ openFault R T) (z : x .number ≡ 0) where
+  pub opened-told : Opened R T
+  opened-told = opened R T (rw is-x at z)
 
-  module _ (z : x .number ≡ 0) where
-    pub by-opened : Opened R T
-    by-opened = opened R T (rw is-x at z)
+  pub report-by-7 : viewOf R T .b ≤ q → reportFault R T q ≡ refused NoSuchPartition
+  report-by-7 many = report-7 R T q (rw is-x at z) many
 
-    pub by-7 : viewOf R T .b ≤ q → reportFault R T q ≡ refused NoSuchPartition
-    by-7 many = report-7 R T q (rw is-x at z) many
-
-    pub by-part : q < viewOf R T .b → (m : ℕ) → m ≡ rulesIn R → partFault m (placesIn m T) q ≡ reportFault R T q
-    unfolding partFault
-    by-part few m is-m = rw is-m (sym (report-part R T q (rw is-x at z) few))
+  pub report-by-part : q < viewOf R T .b → (m : ℕ) → m ≡ rulesIn R → partFault m (placesIn m T) q ≡ reportFault R T q
+  unfolding partFault
+  report-by-part few m is-m = rw is-m (sym (report-part R T q (rw is-x at z) few))
 
 -- x is the report's refusal, and m the number of rules
 module _ (R : Rules) (T : List ℕ) (q : ℕ) (x : Refusal) (is-x : x ≡ reportFault R T q) (z : x .number ≡ 0) where
-  pub by-reported : Reported R T q
-  by-reported = reported R T q (rw is-x at z)
+  pub reported-told : Reported R T q
+  reported-told = reported R T q (rw is-x at z)
 
   pub reported-few : q < 1024
-  reported-few = omega (arith, by-reported .part, by-reported .opens .few-parts, by-reported .opens .shape-stands .few-rules)
+  reported-few = omega (arith, reported-told .part, reported-told .opens .few-parts, reported-told .opens .shape-stands .few-rules)
 
   module _ {m : ℕ} (is-m : m ≡ rulesIn R) where
     pub reported-within : PartWithin m T q
     reported-within =
-        part-within (part-of (by-reported .opens) (by-reported .part) is-m) (rw is-m (by-reported .starts))
+        part-within (opened-part (reported-told .opens) (reported-told .part) is-m) (rw is-m (reported-told .starts))
 
-    pub by-answer : {size least : ℕ} → size ≡ sizeOf (placesIn m T) q → least ≡ leastRule m (placesIn m T) q → Is size least ≡ reportOf R T q
-    by-answer is-size is-least = rw (← is-x, eq-eqb (x .number) 0 z, is-size, is-least, is-m)
-
--- ---- the smallest of several numbers
--- it is at most each of them, and it is one of them where they are below x
-module _ (g : ℕ → ℕ) (x : ℕ) where
-  pub smallest-le : (m k : ℕ) → k < m → smallest g x m ≤ g k
-  unfolding smallest
-  smallest-le zero k lt = absurd (omega arith)
-  smallest-le (suc m) k lt =
-      ⊎-elim
-      (λ e. let same : g k ≡ g m = ap g e in omega arith)
-      (λ l. omega (arith, smallest-le m k l))
-      (eq-or-lt-of-le (le-of-suc-le-suc lt))
-
-  -- it is x, or one of the numbers
-  smallest-how : (m : ℕ) → (smallest g x m ≡ x) ⊎ ((k : ℕ) × (k < m) × (g k ≡ smallest g x m))
-  unfolding smallest
-  smallest-how zero = inl refl
-  smallest-how (suc m) = go (ltb (g m) (smallest g x m)) refl (smallest-how m)
-    where
-      go : (t : Bool) → ltb (g m) (smallest g x m) ≡ t → (smallest g x m ≡ x) ⊎ ((k : ℕ) × (k < m) × (g k ≡ smallest g x m))
-          → (min (smallest g x m) (g m) ≡ x) ⊎ ((k : ℕ) × (k < suc m) × (g k ≡ min (smallest g x m) (g m)))
-      go true e how =
-          let under = ltb-true (g m) (smallest g x m) e in
-          inr (m, omega arith, omega arith)
-      go false e (inl is) =
-          let over = ltb-false (g m) (smallest g x m) e in
-          inl (omega arith)
-      go false e (inr (k, lt, is)) =
-          let over = ltb-false (g m) (smallest g x m) e in
-          inr (k, omega arith, omega arith)
-
-  pub smallest-at : (m : ℕ) → 0 < m → ((k : ℕ) → k < m → g k < x) → (k : ℕ) × (k < m) × (g k ≡ smallest g x m)
-  smallest-at m some below = go (smallest-how m)
-    where
-      go : (smallest g x m ≡ x) ⊎ ((k : ℕ) × (k < m) × (g k ≡ smallest g x m)) → (k : ℕ) × (k < m) × (g k ≡ smallest g x m)
-      go (inl is) = absurd (omega (arith, below 0 some, smallest-le m 0 some))
-      go (inr at) = at
+    pub report-by-answer : {size least : ℕ} → size ≡ sizeOf (placesIn m T) q → least ≡ leastRule m (placesIn m T) q → Is size least ≡ reportOf R T q
+    report-by-answer is-size is-least = rw (← is-x, eq-eqb (x .number) 0 z, is-size, is-least, is-m)
 
 -- ---- what is not refused, and 7
--- a list and a table that open meet none of the opening's refusals
-opened-none : {R : Rules} {T : List ℕ} → Opened R T → openFault R T ≡ none
-unfolding opening
-opened-none {R} {T} h =
-    let v = viewOf R T in
-    let s = h .shape-stands in
-    let shape = shape-stands R (s .some-fields) (s .few-fields) (sym (s .whole)) (s .few-rules) in
-    open-stands R T (ap (λ (x : Refusal). x .number) shape) (h .sized .long)
-    (rw (
-      eq-eqb (v .n) (rulesIn R) (h .rules),
-      eq-eqb (v .d) (fieldsOf R) (h .fields),
-      le-leb (v .b) (rulesIn R) (h .few-parts),
-      eq-eqb (v .start 0) 0 (h .first-start),
-      eq-eqb (v .start (v .b)) (rulesIn R) (h .last-start),
-    ))
-
 pub report-none : {R : Rules} {T : List ℕ} {q : ℕ} → Reported R T q → reportFault R T q ≡ none
 report-none {R} {T} {q} h =
     report-part R T q (ap (λ (x : Refusal). x .number) (opened-none (h .opens))) (h .part)
     ∙ fault-fine (rulesIn R) (viewOf R T) q (h .starts) (h .rules)
-
--- the opening refuses by 1, 2, 3, 5 and 6 alone
-open-few : (R : Rules) (T : List ℕ) → openFault R T .number ≤ 6
-unfolding openFault
-open-few R T = go (stands (shapeFault R)) (eqb (length T) (tableLength (rulesIn R) (fieldsOf R))) (opening (rulesIn R) (fieldsOf R) (viewOf R T))
-  where
-    go : (a e g : Bool) → (pick a (orElse (pick e none (refused BadTableLength)) (pick g none (refused BrokenTable))) (shapeFault R)) .number ≤ 6
-    go false e g = omega (arith, shape-few R)
-    go true false g = omega arith
-    go true true true = omega arith
-    go true true false = omega arith
 
 -- 7 is given where the table opens and the partition number is b or more
 pub seven-how : (R : Rules) (T : List ℕ) (q : ℕ) → reportFault R T q .number ≡ 7 → (openFault R T .number ≡ 0) × (viewOf R T .b ≤ q)

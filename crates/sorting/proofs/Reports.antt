@@ -4,14 +4,14 @@
 --     choice-size            the size is how many rules have this partition number
 --     choice-report          the answer
 -- Assumes nothing.
-use Prim.Native.Nat.{ℕ, suc, _+_, _-_, _≤_, _<_}
+use Prim.Native.Nat.{ℕ, suc, _+_, _≤_, _<_}
 use mathlib.Core.Bool.{Bool, true, false}
 use mathlib.Core.List.{List}
 use mathlib.Core.Path.{_≡_, refl, sym, ap, _∙_, subst}
 use native.Mathlib.Omega.{arith}
 use lib.Dec.{ltb, eqb}
 use borrow.Author.Tests.{lt-ltb, le-leb, eq-eqb, ltb-true, ltb-false, eqb-true, eqb-false}
-use Rattle.ranges.specs.Numbers.{_and_, bit, count, least}
+use Rattle.ranges.specs.Numbers.{bit, count, least}
 use Rattle.ranges.proofs.Numbers.{all-yes, least-is}
 use Rattle.lists.specs.Rules.{Rules, rulesIn, Shaped}
 use Rattle.sorting.specs.FirstFit.{partOf, Choice}
@@ -22,7 +22,8 @@ use Rattle.sorting.specs.declared.report.Part.the-variants.{Is}
 use Rattle.lists.proofs.Sound.{Sound}
 use Rattle.ranges.proofs.Counting.{count-split}
 use Rattle.sorting.proofs.Parts.{choice-parts}
-use Rattle.sorting.proofs.Places.{place-lt, rule-place, place-rule, start-is, start-zero, start-last, start-few, start-ascend, in-part, part-of}
+use Rattle.sorting.proofs.Places.{place-lt, rule-place, place-rule}
+use Rattle.sorting.proofs.Starts.{start-is, start-zero, start-last, start-few, start-ascend, in-part, part-of}
 use Rattle.sorting.proofs.Kept.{choice-few}
 use Rattle.sorting.proofs.Reading.{table-sized, read-rules, read-fields, read-parts, read-order, read-start}
 use Rattle.sorting.proofs.Opening.{Opened}
@@ -47,11 +48,11 @@ module _ {R : Rules} {run : List ℕ} {b : ℕ} (shape : Shaped R) (sound : Soun
   few-all : b ≤ rulesIn R
   few-all = choice-few choice
 
-  start-here : viewOf R (tableOf R run) .start q ≡ startOf R run q
-  start-here = read-start R run q (omega (arith, few-all))
+  start-read-off : viewOf R (tableOf R run) .start q ≡ startOf R run q
+  start-read-off = read-start R run q (omega (arith, few-all))
 
-  start-next : viewOf R (tableOf R run) .start (suc q) ≡ startOf R run (suc q)
-  start-next = read-start R run (suc q) (omega (arith, few-all))
+  next-read-off : viewOf R (tableOf R run) .start (suc q) ≡ startOf R run (suc q)
+  next-read-off = read-start R run (suc q) (omega (arith, few-all))
 
   parts-are : viewOf R (tableOf R run) .b ≡ b
   parts-are = read-parts R run ∙ choice-parts choice
@@ -60,8 +61,8 @@ module _ {R : Rules} {run : List ℕ} {b : ℕ} (shape : Shaped R) (sound : Soun
   rule-below : (p : ℕ) → p < rulesIn R → viewOf R (tableOf R run) .order p < rulesIn R
   rule-below p lt = rw (read-order R run p lt) (place-rule sound choice p lt .0)
 
-  opens : Opened R (tableOf R run)
-  opens =
+  table-opens : Opened R (tableOf R run)
+  table-opens =
       record {
         shape-stands = shape;
         sized = table-sized R run;
@@ -75,12 +76,12 @@ module _ {R : Rules} {run : List ℕ} {b : ℕ} (shape : Shaped R) (sound : Soun
   pub choice-reported : Reported R (tableOf R run) q
   choice-reported =
       record {
-        opens = opens;
+        opens = table-opens;
         part = omega (arith, parts-are);
-        starts = rw (start-here, start-next, lt-ltb (startOf R run q) (startOf R run (suc q)) (start-ascend choice q few), le-leb (startOf R run (suc q)) (rulesIn R) (start-few choice (suc q) few));
+        starts = rw (start-read-off, next-read-off, lt-ltb (startOf R run q) (startOf R run (suc q)) (start-ascend choice q few), le-leb (startOf R run (suc q)) (rulesIn R) (start-few choice (suc q) few));
         rules = all-yes (λ k. ltb (viewOf R (tableOf R run) .order (viewOf R (tableOf R run) .start q + k)) (rulesIn R)) (sizeOf (viewOf R (tableOf R run)) q)
             (λ k l. lt-ltb (viewOf R (tableOf R run) .order (viewOf R (tableOf R run) .start q + k)) (rulesIn R)
-            (rule-below (viewOf R (tableOf R run) .start q + k) (omega (arith, start-next, start-few choice (suc q) few))));
+            (rule-below (viewOf R (tableOf R run) .start q + k) (omega (arith, next-read-off, start-few choice (suc q) few))));
       }
 
   -- the size is how many rules have this partition number
@@ -88,7 +89,7 @@ module _ {R : Rules} {run : List ℕ} {b : ℕ} (shape : Shaped R) (sound : Soun
   choice-size =
       let split =
       count-split (λ i. ltb (partOf run i) q) (λ i. eqb (partOf run i) q) (λ i. ltb (partOf run i) (suc q)) (rulesIn R) (λ i l. bit-next (partOf run i) q) in
-      omega (arith, split, start-here, start-next, start-is choice q (omega arith), start-is choice (suc q) few)
+      omega (arith, split, start-read-off, next-read-off, start-is choice q (omega arith), start-is choice (suc q) few)
 
   -- the smallest rule number of its places is the smallest with this partition number
   choice-least : leastRule (rulesIn R) (viewOf R (tableOf R run)) q ≡ least (rulesIn R) (λ i. eqb (partOf run i) q)
@@ -105,10 +106,10 @@ module _ {R : Rules} {run : List ℕ} {b : ℕ} (shape : Shaped R) (sound : Soun
       p = of .at .0
 
       p-low : startOf R run q ≤ p
-      p-low = omega (arith, of .at .1, start-here)
+      p-low = omega (arith, of .at .1, start-read-off)
 
       p-high : p < startOf R run (suc q)
-      p-high = omega (arith, of .at .2, start-next)
+      p-high = omega (arith, of .at .2, next-read-off)
 
       is-p : p < rulesIn R
       is-p = omega (arith, p-high, start-few choice (suc q) few)
@@ -131,7 +132,7 @@ module _ {R : Rules} {run : List ℕ} {b : ℕ} (shape : Shaped R) (sound : Soun
           let at = rule-place sound choice k is-k in
           let inside = subst (λ i. (startOf R run (partOf run i) ≤ r) × (r < startOf R run (suc (partOf run i)))) at (in-part sound choice r is-r) in
           let mine = subst (λ x. (startOf R run x ≤ r) × (r < startOf R run (suc x))) e inside in
-          let no-less = of .least-of r (omega (arith, mine .0, start-here)) (omega (arith, mine .1, start-next)) in
+          let no-less = of .least-of r (omega (arith, mine .0, start-read-off)) (omega (arith, mine .1, next-read-off)) in
           omega (arith, no-less, read-order R run r is-r, at)
 
       under : (k : ℕ) → k < m → eqb (partOf run k) q ≡ false

@@ -2,7 +2,6 @@
 -- that are not free for it; so the lowest partition without its stamp is the one that first fit gives it.
 --     mark-old, mark-clash, mark-keep                         the stamp of one partition
 --     Stamping, stamping-none, stamping-more, stamping-end    the stamps once rule i is held against the first j rules
---     Seeking, seeking-none, seeking-more, seeking-hit, seeking-end       the search for a partition without the stamp
 --     stamped-fit, stamped-long, stamped-fresh                it is first fit's; and the stamps are ready for the next rule
 -- Assumes nothing.
 use Prim.Native.Nat.{ℕ, suc, _+_, _≤_, _<_}
@@ -11,13 +10,12 @@ use mathlib.Core.List.{List}
 use mathlib.Core.Path.{_≡_, refl, sym, ap, _∙_}
 use native.Mathlib.Omega.{arith}
 use native.Mathlib.Numerals.{add-one}
-use borrow.Author.Count.{below-none, below-more}
 use borrow.Author.Tests.{eq-eqb, ne-eqb, eqb-true, eqb-false, ltb-true, ltb-false}
 use lib.Dec.{ltb, eqb}
 use lib.ListN.{length, getD, set, length-set, List·getD-eq-default}
 use lib.Seq.{getD-set-same, getD-set-other, ext-getD}
 use Rattle.ranges.specs.Numbers.{pick, _and_, all, tab}
-use Rattle.ranges.proofs.Numbers.{least-is, least-none, least-same, tab-length, tab-at}
+use Rattle.ranges.proofs.Numbers.{least-same, tab-length, tab-at}
 use Rattle.lists.specs.Rules.{Rules}
 use Rattle.sorting.specs.Order.{clash}
 use Rattle.sorting.specs.FirstFit.{partOf, free, fitOf}
@@ -107,35 +105,6 @@ module _ (R : Rules) (run : List ℕ) (i : ℕ) (before : List ℕ) where
       = λ q l. let inside : q < 1024 = omega (arith, h .long) in
       h .held q inside ∙ ap (λ m. pick (freeYet R run i m q) (getD before q 0) (stampOf i)) is ∙ sym (tab-at after 1024 q inside) in
       ext-getD 0 now (tab 1024 after) (h .long ∙ sym (tab-length after 1024)) same
-
--- ---- the search for a partition without the stamp
--- the partitions below q have rule i's stamp
-pub record Seeking (i : ℕ) (stamps : List ℕ) (q : ℕ) : Type 0 where
-  pub so-far : q ≤ i + 1
-  pub taken : (k : ℕ) → k < q → getD stamps k 0 ≡ i + 1
-
-module _ (i : ℕ) (stamps : List ℕ) where
-  pub seeking-none : Seeking i stamps 0
-  seeking-none = record { so-far = omega arith; taken = below-none (λ k. getD stamps k 0 ≡ i + 1) }
-
-  pub seeking-more : {q : ℕ} → Seeking i stamps q → q ≤ i → getD stamps q 0 ≡ i + 1 → Seeking i stamps (q + 1)
-  seeking-more {q} h le here = record { so-far = omega arith; taken = below-more (λ k. getD stamps k 0 ≡ i + 1) q (h .taken) here }
-
-  taken-fails : (q : ℕ) → ((k : ℕ) → k < q → getD stamps k 0 ≡ i + 1) → (k : ℕ) → k < q → not (eqb (getD stamps k 0) (stampOf i)) ≡ false
-  taken-fails q h k l = ap not (eq-eqb (getD stamps k 0) (i + 1) (h k l))
-
-  pub seeking-hit : {q : ℕ} → Seeking i stamps q → q ≤ i → (getD stamps q 0 ≡ i + 1 → ⊥) → q ≡ unstamped i stamps
-  unfolding unstamped
-  seeking-hit {q} h le ne =
-      let lt : q < suc i = omega arith in
-      sym
-      (least-is (λ q. not (eqb (getD stamps q 0) (stampOf i))) (suc i) q lt (ap not (ne-eqb (getD stamps q 0) (i + 1) ne)) (taken-fails q (h .taken)))
-
-  pub seeking-end : {q : ℕ} → Seeking i stamps q → i < q → q ≡ unstamped i stamps
-  unfolding unstamped
-  seeking-end {q} h over =
-      let is : q ≡ suc i = omega (arith, h .so-far) in
-      is ∙ sym (least-none (λ q. not (eqb (getD stamps q 0) (stampOf i))) (suc i) (λ k l. taken-fails q (h .taken) k (omega arith)))
 
 -- ---- first fit's partition
 -- a stamp is rule i's exactly where the partition is taken

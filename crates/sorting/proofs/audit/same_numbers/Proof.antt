@@ -1,23 +1,25 @@
--- `sorting::audit::same_numbers` meets its contract. At the loop's head the first k numbers are the same; the measure is what is left of them.
+-- `sorting::audit::same_numbers` meets its contract. At the loop's head the first k numbers are the same (`Told` of lists' `Search.antt`); the measure is what is left of them.
 -- Assumes nothing.
 use native.Mathlib.Omega.{arith}
 use borrow.Author.Needs.{needs}
-use Prim.Native.Nat.{ℕ, _≤_, _<_, _-_}
-use mathlib.Core.Path.{_≡_, sym}
-use borrow.Author.Count.{below-none, below-more}
+use Prim.Native.Nat.{_-_}
+use mathlib.Core.Bool.{true}
+use mathlib.Core.Path.{refl}
+use lib.Dec.{eqb}
 use lib.ListN.{length, getD}
-use Rattle.sorting.proofs.Auditing.{same-not, same-all}
+use borrow.Author.Tests.{eq-eqb, ne-eqb}
+use Rattle.lists.proofs.Search.{Told, told-none, told-more, told-all, told-not}
 use Rattle.sorting.proofs.audit.same_numbers.Statement.{statement}
 use Rattle.sorting.proofs.audit.same_numbers.Tie as tie
 
 abbrev Inv-loop : tie.InvT-loop
-Inv-loop a b k₀ k = (k ≤ length a) × ((j : ℕ) → j < k → getD a j 0 ≡ getD b j 0)
+Inv-loop a b k₀ k = Told (λ j. eqb (getD a j 0) (getD b j 0)) true (length a) k
 
 abbrev μ-loop : tie.MeasureT-loop
 μ-loop a b k₀ k = length a - k
 
 loop-holds : tie.Need-loop-holds Inv-loop μ-loop
-loop-holds c = (search needs, below-none _)
+loop-holds c = told-none _ _ _
 
 mul-if1 : tie.Need-mul-if1 Inv-loop μ-loop
 mul-if1 c = search needs
@@ -35,8 +37,7 @@ shared-slice-read-if1-2 c = search needs
 returns : tie.Need-returns Inv-loop μ-loop
 returns c =
     let at-test = c .before .before .before in
-    let a = at-test .before .before .args in
-    sym (same-not (a .a .now) (a .b .now) _ (at-test .loop-test .taken) (c .if1 .taken))
+    told-not (at-test .before .loop .inv) (at-test .loop-test .taken) refl (ne-eqb _ _ (c .if1 .taken))
 
 add-k : tie.Need-add-k Inv-loop μ-loop
 add-k c = search needs
@@ -47,14 +48,11 @@ loop-less c = omega arith
 loop-again : tie.Need-loop-again Inv-loop μ-loop
 loop-again c =
     let at-test = c .before .before .before in
-    (search needs, below-more _ _ (at-test .before .loop .inv .1) (c .if1 .left))
+    told-more (at-test .before .loop .inv) (at-test .loop-test .taken) refl (eq-eqb _ _ (c .if1 .left))
 
 -- all the same
 returns-2 : tie.Need-returns-2 Inv-loop μ-loop
-returns-2 c =
-    let loop = c .before in
-    let a = loop .before .args in
-    sym (same-all (a .a .now) (a .b .now) _ (c .loop-test .left) (loop .loop .inv .1))
+returns-2 c = told-all (c .before .loop .inv) (c .loop-test .left)
 
 pub same-numbers-spec : {M : Type 1} → statement M
 same-numbers-spec =

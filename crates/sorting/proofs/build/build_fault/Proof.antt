@@ -3,7 +3,9 @@
 use native.Mathlib.Omega.{arith}
 use borrow.Author.Needs.{needs}
 use mathlib.Core.Path.{sym, _∙_}
-use Rattle.sorting.proofs.Building.{by-list, by-shape, by-length, by-fine}
+use Rattle.lists.proofs.Faults.{by-refused, by-listed}
+use Rattle.sorting.specs.Build.{buildFault}
+use Rattle.sorting.proofs.BuildFaults.{build-by-length, build-by-fine}
 use Rattle.sorting.proofs.build.build_fault.Statement.{statement}
 use Rattle.sorting.proofs.build.build_fault.Tie as tie
 
@@ -12,12 +14,13 @@ list-fault-requires c κs = search needs
 
 -- 1, 2, 3, 4
 returns : tie.Need-returns
-returns c = by-list _ _ (c .before .before .list-fault .ensures) _ (c .if1 .taken)
+unfolding buildFault
+returns c = by-refused _ _ (c .before .before .list-fault .ensures) (λ x. x) _ (c .if1 .taken)
 
 cast-d : tie.Need-cast-d
 cast-d c =
     let t = c .before in
-    omega (arith, by-shape _ _ (t .before .before .list-fault .ensures) (t .if1 .left) .few-fields)
+    omega (arith, by-listed _ _ (t .before .before .list-fault .ensures) (t .if1 .left) .few-fields)
 
 rules-in-requires : tie.Need-rules-in-requires
 rules-in-requires c κs = search needs
@@ -25,7 +28,7 @@ rules-in-requires c κs = search needs
 cast-n : tie.Need-cast-n
 cast-n c =
     let t = c .before .before in
-    omega (arith, c .rules-in .ensures, by-shape _ _ (t .before .before .list-fault .ensures) (t .if1 .left) .few-rules)
+    omega (arith, c .rules-in .ensures, by-listed _ _ (t .before .before .list-fault .ensures) (t .if1 .left) .few-rules)
 
 table-length-requires : tie.Need-table-length-requires
 table-length-requires c κs = search needs
@@ -41,7 +44,7 @@ returns-2 c =
     let t = n .before .before in
     let a = t .before .before .before .before .before .args in
     c .refuse .ensures
-    ∙ sym (by-length _ _ (t .before .before .list-fault .ensures) (t .if1 .left) _ (n .rules-in .ensures) (a .table .now) _ (long .table-length .ensures) (c .before .if2 .taken))
+    ∙ sym (build-by-length _ _ (t .before .before .list-fault .ensures) (t .if1 .left) _ (n .rules-in .ensures) (a .table .now) _ (long .table-length .ensures) (c .before .if2 .taken))
 
 refuse-requires-2 : tie.Need-refuse-requires-2
 refuse-requires-2 c κs = search needs
@@ -54,7 +57,7 @@ returns-3 c =
     let t = n .before .before in
     let a = t .before .before .before .before .before .args in
     c .refuse2 .ensures
-    ∙ sym (by-fine _ _ (t .before .before .list-fault .ensures) (t .if1 .left) _ (n .rules-in .ensures) (a .table .now) _ (long .table-length .ensures) (c .before .if2 .left))
+    ∙ sym (build-by-fine _ _ (t .before .before .list-fault .ensures) (t .if1 .left) _ (n .rules-in .ensures) (a .table .now) _ (long .table-length .ensures) (c .before .if2 .left))
 
 pub build-fault-spec : {M : Type 1} → statement M
 build-fault-spec =

@@ -7,8 +7,6 @@ use Rattle.lists.specs.Rules.{listed, rulesIn}
 use Rattle.sorting.proofs.Choosing.{Choosing, choosing-none, choosing-marks, choosing-more, choosing-numbers, choosing-end}
 use native.Mathlib.Omega.{arith}
 use borrow.Author.Needs.{needs}
-use Prim.Native.Nat.{_-_}
-use mathlib.Core.Path.{_≡_}
 use Rattle.sorting.proofs.choose.choose.Statement.{statement}
 use Rattle.sorting.proofs.choose.choose.Tie as tie
 

@@ -5,7 +5,6 @@ use Rattle.lists.specs.Rules.{listed}
 use Rattle.sorting.proofs.Stamps.{Stamping, part-few, stamping-none, stamping-more, stamping-end}
 use native.Mathlib.Omega.{arith}
 use borrow.Author.Needs.{needs}
-use Rattle.sorting.proofs.Stamps.{Stamping, stamping-none, stamping-more, stamping-end}
 use Rattle.sorting.proofs.choose.mark.Statement.{statement}
 use Rattle.sorting.proofs.choose.mark.Tie as tie
 

@@ -8,9 +8,6 @@ use Rattle.sorting.proofs.Parts.{parts-none}
 use Rattle.sorting.proofs.Choosing.{parts-turn, parts-whole}
 use native.Mathlib.Omega.{arith}
 use borrow.Author.Needs.{needs}
-use Prim.Native.Nat.{_≤_, _-_}
-use mathlib.Core.Path.{_≡_, sym, _∙_}
-use Rattle.sorting.proofs.Parts.{parts-none}
 use Rattle.sorting.proofs.choose.parts_in.Statement.{statement}
 use Rattle.sorting.proofs.choose.parts_in.Tie as tie
 

@@ -5,7 +5,9 @@ use mathlib.Core.Path.{sym, _∙_}
 use borrow.Author.Tests.{not-true, not-false}
 use native.Mathlib.Omega.{arith}
 use Rattle.lists.specs.Rules.{listed}
-use Rattle.sorting.proofs.Opening.{by-shape, by-shaped, by-few, by-length, by-broken, by-stands}
+use Rattle.lists.proofs.Faults.{by-refused, by-shaped}
+use Rattle.sorting.specs.Opening.{openFault}
+use Rattle.sorting.proofs.Opening.{open-by-length, open-by-broken, open-by-stands}
 use Rattle.sorting.proofs.layout.open_fault.Statement.{statement}
 use Rattle.sorting.proofs.layout.open_fault.Tie as tie
 
@@ -14,7 +16,8 @@ shape-fault-requires c κs = search needs
 
 -- 1, 2, 3
 returns : tie.Need-returns
-returns c = by-shape _ _ (c .before .before .shape-fault .ensures) _ (c .if1 .taken)
+unfolding openFault
+returns c = by-refused _ _ (c .before .before .shape-fault .ensures) (λ x. x) _ (c .if1 .taken)
 
 cast-d : tie.Need-cast-d
 cast-d c =
@@ -29,7 +32,7 @@ rules-in-requires c κs = search needs
 cast-n : tie.Need-cast-n
 cast-n c =
     let t = c .before .before in
-    omega (arith, by-few _ _ (t .before .before .shape-fault .ensures) (t .if1 .left) _ (c .rules-in .ensures))
+    omega (arith, c .rules-in .ensures, by-shaped _ _ (t .before .before .shape-fault .ensures) (t .if1 .left) .few-rules)
 
 table-length-requires : tie.Need-table-length-requires
 table-length-requires c κs = search needs
@@ -46,7 +49,7 @@ returns-2 c =
     let a = t .before .before .before .before .before .args in
     c .refuse .ensures
     ∙ sym
-    (by-length (listed (a .shape) (a .list .now)) _ (t .before .before .shape-fault .ensures) (t .if1 .left) _ (n .rules-in .ensures) (a .table .now) _ (long .table-length .ensures) (c .before .if2 .taken))
+    (open-by-length (listed (a .shape) (a .list .now)) _ (t .before .before .shape-fault .ensures) (t .if1 .left) _ (n .rules-in .ensures) (a .table .now) _ (long .table-length .ensures) (c .before .if2 .taken))
 
 opens-requires : tie.Need-opens-requires
 opens-requires c κs = record { long = c .if2 .left ∙ c .before .table-length .ensures }
@@ -64,7 +67,7 @@ returns-3 c =
     let a = t .before .before .before .before .before .args in
     c .refuse2 .ensures
     ∙ sym
-    (by-broken (listed (a .shape) (a .list .now)) _ (t .before .before .shape-fault .ensures) (t .if1 .left) _ (n .rules-in .ensures) (a .table .now) _ (long .table-length .ensures)
+    (open-by-broken (listed (a .shape) (a .list .now)) _ (t .before .before .shape-fault .ensures) (t .if1 .left) _ (n .rules-in .ensures) (a .table .now) _ (long .table-length .ensures)
     (told .before .if2 .left) (sym (told .opens .ensures) ∙ not-true _ (c .before .if3 .taken)))
 
 refuse-requires-3 : tie.Need-refuse-requires-3
@@ -80,7 +83,7 @@ returns-4 c =
     let a = t .before .before .before .before .before .args in
     c .refuse3 .ensures
     ∙ sym
-    (by-stands (listed (a .shape) (a .list .now)) _ (t .before .before .shape-fault .ensures) (t .if1 .left) _ (n .rules-in .ensures) (a .table .now) _ (long .table-length .ensures)
+    (open-by-stands (listed (a .shape) (a .list .now)) _ (t .before .before .shape-fault .ensures) (t .if1 .left) _ (n .rules-in .ensures) (a .table .now) _ (long .table-length .ensures)
     (told .before .if2 .left) (sym (told .opens .ensures) ∙ not-false _ (c .before .if3 .left)))
 
 pub open-fault-spec : {M : Type 1} → statement M

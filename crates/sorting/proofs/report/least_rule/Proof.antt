@@ -5,7 +5,8 @@ use borrow.Author.Needs.{needs}
 use Prim.Native.Nat.{_≤_, _-_, _+_}
 use mathlib.Core.Path.{_≡_}
 use Rattle.sorting.specs.Report.{placesIn, smallest}
-use Rattle.sorting.proofs.Reporting.{start-here, place-few, place-in, least-none, least-more, least-all}
+use Rattle.sorting.proofs.PartPlaces.{start-here, place-few, place-in, least-all}
+use Rattle.sorting.proofs.Minimum.{smallest-none, smallest-more}
 use Rattle.sorting.proofs.report.least_rule.Statement.{statement}
 use Rattle.sorting.proofs.report.least_rule.Tie as tie
 
@@ -22,7 +23,7 @@ part-size-requires : tie.Need-part-size-requires Inv-loop μ-loop
 part-size-requires c κs = search needs
 
 loop-holds : tie.Need-loop-holds Inv-loop μ-loop
-loop-holds c = (search needs, least-none _ _)
+loop-holds c = (search needs, smallest-none _ _)
 
 add-rule-in : tie.Need-add-rule-in Inv-loop μ-loop
 add-rule-in c =
@@ -48,7 +49,7 @@ loop-again : tie.Need-loop-again Inv-loop μ-loop
 loop-again c =
     let told = c .before in
     let loop = told .before .before in
-    (search needs, least-more _ _ (loop .loop .inv .1) _ (told .rule-in .ensures) (c .smaller .ensures))
+    (search needs, smallest-more _ _ (loop .loop .inv .1) _ (told .rule-in .ensures) (c .smaller .ensures))
 
 returns : tie.Need-returns Inv-loop μ-loop
 returns c =

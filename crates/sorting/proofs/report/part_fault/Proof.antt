@@ -3,7 +3,8 @@
 use borrow.Author.Needs.{needs}
 use mathlib.Core.Path.{sym, _∙_}
 use borrow.Author.Tests.{not-true, not-false}
-use Rattle.sorting.proofs.Reporting.{part-within, fault-starts, fault-rules, fault-fine}
+use Rattle.sorting.proofs.PartPlaces.{part-within}
+use Rattle.sorting.proofs.Reporting.{fault-starts, fault-rules, fault-fine}
 use Rattle.sorting.proofs.report.part_fault.Statement.{statement}
 use Rattle.sorting.proofs.report.part_fault.Tie as tie
 

@@ -1,7 +1,7 @@
 -- `sorting::report::part_size` meets its contract: the starts ascend.
 -- Assumes nothing.
 use borrow.Author.Needs.{needs}
-use Rattle.sorting.proofs.Reporting.{start-here, start-after, part-size, size-fits}
+use Rattle.sorting.proofs.PartPlaces.{start-here, start-after, part-size, size-fits}
 use Rattle.sorting.proofs.report.part_size.Statement.{statement}
 use Rattle.sorting.proofs.report.part_size.Tie as tie
 

@@ -2,7 +2,7 @@
 -- Assumes nothing.
 use borrow.Author.Needs.{needs}
 use mathlib.Core.Path.{sym}
-use Rattle.sorting.proofs.Reporting.{start-here, start-after, part-not, part-test}
+use Rattle.sorting.proofs.PartPlaces.{start-here, start-after, part-not, part-test}
 use Rattle.sorting.proofs.report.part_stands.Statement.{statement}
 use Rattle.sorting.proofs.report.part_stands.Tie as tie
 

@@ -4,7 +4,7 @@ use native.Mathlib.Omega.{arith}
 use borrow.Author.Needs.{needs}
 use Rattle.lists.proofs.Faults.{by-refused}
 use Rattle.sorting.specs.declared.report.Part.the-variants.{Refused}
-use Rattle.sorting.proofs.Reporting.{by-reported, reported-few, reported-within, by-answer}
+use Rattle.sorting.proofs.Reporting.{reported-told, reported-few, reported-within, report-by-answer}
 use Rattle.sorting.proofs.report.report.Statement.{statement}
 use Rattle.sorting.proofs.report.report.Tie as tie
 
@@ -21,7 +21,7 @@ rules-in-requires c κs = search needs
 cast-n : tie.Need-cast-n
 cast-n c =
     let t = c .before in
-    omega (arith, c .rules-in .ensures, by-reported _ _ _ _ (t .before .before .report-fault .ensures) (t .if1 .left) .opens .shape-stands .few-rules)
+    omega (arith, c .rules-in .ensures, reported-told _ _ _ _ (t .before .before .report-fault .ensures) (t .if1 .left) .opens .shape-stands .few-rules)
 
 cast-q : tie.Need-cast-q
 cast-q c =
@@ -51,7 +51,7 @@ returns-2 c =
     let size = c .before in
     let n = size .before in
     let t = n .before in
-    by-answer _ _ _ _ (t .before .before .report-fault .ensures) (t .if1 .left) (n .rules-in .ensures) (size .part-size .ensures) (c .least-rule .ensures)
+    report-by-answer _ _ _ _ (t .before .before .report-fault .ensures) (t .if1 .left) (n .rules-in .ensures) (size .part-size .ensures) (c .least-rule .ensures)
 
 pub report-spec : {M : Type 1} → statement M
 report-spec =

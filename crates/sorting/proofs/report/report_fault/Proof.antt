@@ -3,8 +3,10 @@
 use native.Mathlib.Omega.{arith}
 use borrow.Author.Needs.{needs}
 use mathlib.Core.Path.{sym, _∙_}
+use Rattle.lists.proofs.Faults.{by-refused}
+use Rattle.sorting.specs.Report.{reportFault}
 use Rattle.sorting.proofs.Opening.{head-read}
-use Rattle.sorting.proofs.Reporting.{by-open, by-opened, by-7, by-part, part-of}
+use Rattle.sorting.proofs.Reporting.{opened-told, report-by-7, report-by-part, opened-part}
 use Rattle.sorting.proofs.report.report_fault.Statement.{statement}
 use Rattle.sorting.proofs.report.report_fault.Tie as tie
 
@@ -13,13 +15,14 @@ open-fault-requires c κs = search needs
 
 -- 1, 2, 3, 5, 6 for the opening
 returns : tie.Need-returns
-returns c = by-open _ _ _ _ (c .before .before .open-fault .ensures) (c .if1 .taken)
+unfolding reportFault
+returns c = by-refused _ _ (c .before .before .open-fault .ensures) (λ x. x) _ (c .if1 .taken)
 
 shared-slice-read-if2 : tie.Need-shared-slice-read-if2
 shared-slice-read-if2 c =
     let t = c .before in
     let a = t .before .before .before .before .before .args in
-    head-read (by-opened _ _ (a .part) _ (t .before .before .open-fault .ensures) (t .if1 .left) .sized) 2 (omega arith)
+    head-read (opened-told _ _ (a .part) _ (t .before .before .open-fault .ensures) (t .if1 .left) .sized) 2 (omega arith)
 
 cast-if2 : tie.Need-cast-if2
 cast-if2 c = omega (arith, c .shared-slice-known3 .given 2)
@@ -32,7 +35,7 @@ returns-2 : tie.Need-returns-2
 returns-2 c =
     let seven = c .before in
     let t = seven .before .before in
-    c .refuse .ensures ∙ sym (by-7 _ _ _ _ (t .before .before .open-fault .ensures) (t .if1 .left) (seven .if2 .taken))
+    c .refuse .ensures ∙ sym (report-by-7 _ _ _ _ (t .before .before .open-fault .ensures) (t .if1 .left) (seven .if2 .taken))
 
 rules-in-requires : tie.Need-rules-in-requires
 rules-in-requires c κs = search needs
@@ -41,21 +44,21 @@ cast-part-fault : tie.Need-cast-part-fault
 cast-part-fault c =
     let t = c .before .before .before in
     let a = t .before .before .before .before .before .args in
-    omega (arith, c .rules-in .ensures, by-opened _ _ (a .part) _ (t .before .before .open-fault .ensures) (t .if1 .left) .shape-stands .few-rules)
+    omega (arith, c .rules-in .ensures, opened-told _ _ (a .part) _ (t .before .before .open-fault .ensures) (t .if1 .left) .shape-stands .few-rules)
 
 cast-part-fault-2 : tie.Need-cast-part-fault-2
 cast-part-fault-2 c =
     let t = c .before .before .before in
     let a = t .before .before .before .before .before .args in
-    let opens = by-opened _ _ (a .part) _ (t .before .before .open-fault .ensures) (t .if1 .left) in
+    let opens = opened-told _ _ (a .part) _ (t .before .before .open-fault .ensures) (t .if1 .left) in
     omega (arith, opens .few-parts, opens .shape-stands .few-rules, c .before .if2 .left)
 
 part-fault-requires : tie.Need-part-fault-requires
 part-fault-requires c κs =
     let t = c .before .before .before in
     let a = t .before .before .before .before .before .args in
-    let opens = by-opened _ _ (a .part) _ (t .before .before .open-fault .ensures) (t .if1 .left) in
-    part-of opens (c .before .if2 .left) (c .rules-in .ensures)
+    let opens = opened-told _ _ (a .part) _ (t .before .before .open-fault .ensures) (t .if1 .left) in
+    opened-part opens (c .before .if2 .left) (c .rules-in .ensures)
 
 -- 6 for the partition, or none
 returns-3 : tie.Need-returns-3
@@ -63,7 +66,7 @@ returns-3 c =
     let n = c .before in
     let few = n .before in
     let t = few .before .before in
-    c .part-fault .ensures ∙ by-part _ _ _ _ (t .before .before .open-fault .ensures) (t .if1 .left) (few .if2 .left) _ (n .rules-in .ensures)
+    c .part-fault .ensures ∙ report-by-part _ _ _ _ (t .before .before .open-fault .ensures) (t .if1 .left) (few .if2 .left) _ (n .rules-in .ensures)
 
 pub report-fault-spec : {M : Type 1} → statement M
 report-fault-spec =
