@@ -23,6 +23,7 @@
 -- Putting: numbers written into a table from a place on.
 -- Rows: the runs by neighbouring places, a row of fields at a time.
 -- Restarting: a row with one number from a field on.
+-- Rowed: rows of fields written into a part of a table.
 -- RowByRow: the loops that write the runs, a row of fields at a time.
 -- Laid: the parts of a table, written one after the other, are the whole table.
 -- BuildFaults: which of 1 to 5 a list and a table meet.
@@ -59,6 +60,7 @@ pub mod Ranks
 pub mod Putting
 pub mod Rows
 pub mod Restarting
+pub mod Rowed
 pub mod RowByRow
 pub mod Laid
 pub mod BuildFaults

@@ -1,4 +1,5 @@
 -- Reading the table of a list and a run of partition numbers gives back its parts (`specs/Table.antt`, `specs/Layout.antt`).
+--     within, past                               a list in two parts
 --     table-sized                                the table's length
 --     read-rules, read-fields, read-parts        n, d, b
 --     read-order, read-start                     the rule at a place; the first place of a partition
@@ -24,10 +25,10 @@ use Rattle.sorting.specs.Table.{ruleAt, startOf, runFrom, runTo, byPlace
 
 -- ---- a list in two parts, the first of n numbers
 module _ (xs ys : List ℕ) (n : ℕ) (long : length xs ≡ n) where
-  within : (at : ℕ) → at < n → getD (xs ++ ys) at 0 ≡ getD xs at 0
+  pub within : (at : ℕ) → at < n → getD (xs ++ ys) at 0 ≡ getD xs at 0
   within at lt = List·getD-append xs ys 0 at (omega arith)
 
-  past : (k at : ℕ) → at ≡ n + k → getD (xs ++ ys) at 0 ≡ getD ys k 0
+  pub past : (k at : ℕ) → at ≡ n + k → getD (xs ++ ys) at 0 ≡ getD ys k 0
   past k at e =
       let is : at ≡ length xs + k = omega arith in
       ap (λ m. getD (xs ++ ys) m 0) is ∙ getD-append-add xs ys k 0
