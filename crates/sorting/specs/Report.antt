@@ -32,7 +32,7 @@ sizeOf v q = v .start (suc q) - v .start q
 abbrev pub rulesStand : ℕ → View → ℕ → Bool
 rulesStand n v q = all (sizeOf v q) (λ k. ltb (v .order (v .start q + k)) n)
 
--- the smallest rule number of partition q, where each is below n
+-- the smallest rule number of partition q, or n where none is smaller
 -- (of the bench table's partition 0, at places 0 to 2: 0)
 abbrev pub leastRule : ℕ → View → ℕ → ℕ
 leastRule n v q = smallest (λ k. v .order (v .start q + k)) n (sizeOf v q)

@@ -79,7 +79,7 @@ fn larger(a: u16, b: u16) -> u16
     a
 }
 
-// Counts how many partitions a run of partition numbers opens: one more than the largest.
+// Counts how many partitions a run of partition numbers opens: one more than the largest, 0 where there is none.
 fn parts_in(run: &[u16]) -> u16
     requires { ⌜ ((i : ℕ) → i < length (now run) → partOf (now run) i < 1024) ⌝ }
     ensures { λ r. ⌜ r ≡ parts (now (run .entry)) (length (now (run .entry))) ⌝ }

@@ -88,7 +88,7 @@ fn smaller(a: u16, b: u16) -> u16
     a
 }
 
-// Gives the smallest rule number of partition q, where each is below n, by reading its places.
+// Gives the smallest rule number of partition q by reading its places, or n where none is smaller.
 fn least_rule(n: u16, table: &[u16], q: u16) -> u16
     requires { ⌜ PartWithin n (now table) q ⌝ }
     ensures { λ r. ⌜ r ≡ leastRule n (placesIn n (now (table .entry))) q ⌝ }
@@ -104,7 +104,8 @@ fn least_rule(n: u16, table: &[u16], q: u16) -> u16
     least
 }
 
-// Gives 6 where partition q is broken: its starts do not ascend or go past n, or one of its rule numbers is n or more.
+// Gives 6 where partition q is broken, its starts not ascending or going past n or one of its rule numbers n or more,
+// and else the refusal that refuses nothing.
 fn part_fault(n: u16, table: &[u16], q: u16) -> Refusal
     requires { ⌜ PartOf n (now table) q ⌝ }
     ensures { λ r. ⌜ r ≡ partFault n (placesIn n (now (table .entry))) q ⌝ }
