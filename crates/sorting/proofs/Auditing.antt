@@ -1,6 +1,6 @@
 -- Laws of the audit (`specs/Build.antt`): a table is held, number by number, against what the build writes into room of its own.
 --     equal-same, same-equal                   two runs with the same numbers are the same run
---     table-few, table-room, table-asked       a table of the right length has at most 18,436 numbers
+--     table-few, table-asked                   a table of the right length has at most 18,436 numbers
 --     table-back, table-count, table-front     what was written into the room for them
 --     audit-yes, audit-no                      the answers
 -- Assumes nothing.
@@ -10,8 +10,8 @@ use mathlib.Core.List.{List, _++_}
 use mathlib.Core.Path.{_≡_, sym, ap, _∙_}
 use native.Mathlib.Omega.{arith}
 use native.Mathlib.Nat.{mul-le-mul}
-use lib.ListN.{length, getD, take, replicate, length-append, length-replicate}
-use lib.Seq.{take-at, length-take-le, ext-getD}
+use lib.ListN.{length, getD, take, replicate}
+use lib.Seq.{ext-getD}
 use lib.Dec.{eqb}
 use borrow.Author.Tests.{eq-eqb, eqb-true}
 use Rattle.ranges.specs.declared.refusal.Refusal.{Refusal}
@@ -24,6 +24,7 @@ use Rattle.sorting.specs.Build.{buildFault, sameNumbers, auditOf}
 use Rattle.sorting.specs.declared.audit.Verdict.the-variants.{Yes, No}
 use Rattle.lists.proofs.Sound.{list-shaped}
 use Rattle.sorting.proofs.Reading.{table-sized}
+use Rattle.sorting.proofs.Room.{room-long, back-fits, back-long, back-is}
 
 -- ---- two runs with the same numbers
 module _ (a b : List ℕ) where
@@ -45,27 +46,22 @@ module _ {R : Rules} {T : List ℕ} (h : Buildable R T) where
       let cells : rulesIn R * fieldsOf R ≤ 8192 = mul-le-mul (s .few-rules) (s .few-fields) in
       omega (arith, h .sized .long, s .few-rules)
 
-  pub table-room : length T ≡ length (take (length T) (replicate {A = ℕ} 18436 0))
-  table-room =
-      let zeros : List ℕ = replicate 18436 0 in
-      sym (length-take-le (length T) zeros (omega (arith, table-few, length-replicate {A = ℕ} 18436 0)))
-
   -- a part of it as long as the table may be written
   pub table-asked : Buildable R (take (length T) (replicate {A = ℕ} 18436 0))
-  table-asked = record { no-fault = h .no-fault; sized = record { long = sym table-room ∙ h .sized .long } }
+  table-asked = record { no-fault = h .no-fault; sized = record { long = sym (room-long 18436 (length T) table-few) ∙ h .sized .long } }
 
   module _ {built : List ℕ} (is : built ≡ builtTable R) (rest : List ℕ) where
     built-long : length built ≡ length T
     built-long = ap length is ∙ table-sized R _ .long ∙ sym (h .sized .long)
 
     pub table-back : length T ≤ length (built ++ rest)
-    table-back = rw length-append (omega (arith, built-long))
+    table-back = back-fits built built-long rest
 
     pub table-count : length T ≡ length (take (length T) (built ++ rest))
-    table-count = sym (length-take-le (length T) (built ++ rest) table-back)
+    table-count = back-long built built-long rest
 
     pub table-front : take (length T) (built ++ rest) ≡ builtTable R
-    table-front = take-at built rest (length T) built-long ∙ is
+    table-front = back-is built built-long rest ∙ is
 
 -- ---- the answers
 module _ (R : Rules) (T : List ℕ) (x : Refusal) (is-x : x ≡ buildFault R T) (z : x .number ≡ 0) {S : List ℕ} (is : S ≡ builtTable R) where

@@ -1,56 +1,26 @@
 -- The loop of `choose`: once the first i rules are taken, the run's first i numbers are first fit's, and no stamp is later than
 -- that of the rules taken. The next rule gets the lowest partition without its stamp (`Stamps.antt`).
---     parts-turn, parts-whole             how many partitions the first i numbers of a run open
---     fit-low                             first fit gives no rule a number above its own
---     Choosing, choosing-none, choosing-marks, choosing-more, choosing-end
+--     Choosing, choosing-none, choosing-more      the first i rules are taken
+--     choosing-marks                              rule i may be held against the rules before it
+--     choosing-numbers, choosing-end              every rule is taken
 -- Assumes nothing.
-use Prim.Native.Nat.{ℕ, zero, suc, max, _+_, _≤_, _<_}
-use mathlib.Core.Bool.{Bool, true, false, not}
+use Prim.Native.Nat.{ℕ, _+_, _≤_, _<_}
+use mathlib.Core.Bool.{Bool, true, false}
 use mathlib.Core.List.{List}
-use mathlib.Core.Path.{_≡_, refl, sym, ap, _∙_, subst}
-use mathlib.Core.Logic.{⊎-elim}
+use mathlib.Core.Path.{_≡_, refl, sym, ap, _∙_}
 use native.Mathlib.Omega.{arith}
-use native.Mathlib.Nat.{eq-or-lt-of-le, le-of-suc-le-suc}
 use native.Mathlib.Numerals.{add-one}
-use borrow.Author.Tests.{ne-eqb, ltb-true, ltb-false}
-use lib.Dec.{ltb, eqb}
+use borrow.Author.Tests.{ltb-true, ltb-false}
+use lib.Dec.{ltb}
 use lib.ListN.{length, getD, set, take, replicate, length-set, length-replicate, getD-replicate, List·getD-eq-default}
 use lib.Seq.{take-all, take-suc-set, length-take-le}
-use Rattle.ranges.specs.Numbers.{_and_}
-use Rattle.ranges.proofs.Numbers.{all-yes}
 use Rattle.lists.specs.Rules.{Rules, rulesIn, Shaped}
-use Rattle.sorting.specs.Order.{clash}
-use Rattle.sorting.specs.FirstFit.{partOf, free, fitOf, firstFit, parts, Chosen}
+use Rattle.sorting.specs.FirstFit.{partOf, fitOf, firstFit, parts, Chosen}
 use Rattle.sorting.specs.Asked.{RunFor}
 use Rattle.sorting.specs.Marks.{stamped, unstamped, Marking}
-use Rattle.sorting.proofs.Parts.{parts-more}
-use Rattle.sorting.proofs.FirstFits.{fit-least, first-fit-more, first-fit-at, first-fit-same}
+use Rattle.sorting.proofs.FirstFits.{first-fit-more, first-fit-low}
 use Rattle.sorting.proofs.Stamps.{stamped-fit, stamped-long, stamped-fresh}
 
--- ---- how many partitions a run opens
-pub parts-turn : (run : List ℕ) (b i : ℕ) → b ≡ parts run i → max b (partOf run i + 1) ≡ parts run (i + 1)
-parts-turn run b i is = rw (is, parts-more run i, add-one (partOf run i))
-
-pub parts-whole : (run : List ℕ) (b i : ℕ) → b ≡ parts run i → i ≤ length run → length run ≤ i → b ≡ parts run (length run)
-parts-whole run b i is le ge = let all-of : i ≡ length run = omega arith in is ∙ ap (parts run) all-of
-
--- ---- first fit
-module _ (R : Rules) where
-  -- the partition of rule i's own number has no member before it
-  own-free : (run : List ℕ) (i : ℕ) → ((j : ℕ) → j < i → partOf run j ≤ j) → free R run i i ≡ true
-  own-free run i low =
-      all-yes (λ j. not (eqb (partOf run j) i and clash R j i)) i
-      (λ j l. let other : partOf run j ≡ i → ⊥ = λ e. omega (arith, low j l) in rw (ne-eqb (partOf run j) i other))
-
-  pub fit-low : (k j : ℕ) → j < k → partOf (firstFit R k) j ≤ j
-  fit-low zero j lt = absurd (omega arith)
-  fit-low (suc k) j lt =
-      ⊎-elim
-      (λ e. rw (first-fit-at R (suc k) j lt) (subst (λ m. fitOf R (firstFit R m) m ≤ m) (sym e) (fit-least R (firstFit R k) k k (own-free (firstFit R k) k (fit-low k)))))
-      (λ l. rw (first-fit-same R k (suc k) j l (omega arith)) (fit-low k j l))
-      (eq-or-lt-of-le (le-of-suc-le-suc lt))
-
--- ---- the loop
 pub record Choosing (R : Rules) (run stamps : List ℕ) (i : ℕ) : Type 0 where
   pub so-far : i ≤ rulesIn R
   pub one-each : length run ≡ rulesIn R
@@ -89,7 +59,7 @@ module _ {R : Rules} {run stamps : List ℕ} {i : ℕ} (s : Shaped R) (h : Choos
         shape-stands = s;
         rule = lt;
         taken = length-take-le i run (omega (arith, h .one-each));
-        numbers = rw (h .chosen) (fit-low R i);
+        numbers = rw (h .chosen) (first-fit-low R i);
         long = h .long;
         fresh = h .fresh;
       }
@@ -125,7 +95,7 @@ module _ {R : Rules} {run stamps : List ℕ} {i : ℕ} (h : Choosing R run stamp
 
   pub choosing-numbers : Shaped R → (j : ℕ) → j < length run → partOf run j < 1024
   choosing-numbers s j l =
-      let low : partOf run j ≤ j = rw whole (fit-low R (rulesIn R) j (omega (arith, h .one-each))) in
+      let low : partOf run j ≤ j = rw whole (first-fit-low R (rulesIn R) j (omega (arith, h .one-each))) in
       omega (arith, s .few-rules, h .one-each)
 
   pub choosing-end : {b : ℕ} → b ≡ parts run (length run) → Chosen R run b

@@ -5,9 +5,10 @@
 --     free-yes, free-clear, free-full                    a partition is free for a rule: no earlier member clashes
 --     fit-is, fit-free, fit-under, fit-least             the lowest-numbered partition that is free
 --     first-fit-length, first-fit-more, first-fit-at     first fit, rule after rule
---     first-fit-same                                     of more rules: the numbers of the first ones stay
+--     first-fit-same, first-fit-is                       of more rules: the numbers of the first ones stay, and are the fits
 --     Fitted, first-fit-fitted                           a rule has the lowest partition in which it clashes with no earlier member
---     first-fit-few, first-fit-choice                    at most n partitions; a choice without clashes and gaps
+--     first-fit-low, first-fit-few                       no rule has a number above its own; at most n partitions
+--     first-fit-choice                                   a choice without clashes and gaps
 -- Assumes nothing.
 use Prim.Native.Nat.{ℕ, zero, suc, _+_, _≤_, _<_}
 use mathlib.Core.Bool.{Bool, true, false, not}
@@ -173,6 +174,12 @@ module _ (R : Rules) (run : List ℕ) (n : ℕ) (each : (i : ℕ) → i < n → 
 module _ (R : Rules) where
   pub first-fit-fitted : (n i : ℕ) → i < n → Fitted R (firstFit R n) i
   first-fit-fitted n = fitted R (firstFit R n) n (first-fit-is R n)
+
+  -- no rule has a number above its own
+  pub first-fit-low : (n i : ℕ) → i < n → partOf (firstFit R n) i ≤ i
+  first-fit-low n i lt =
+      let each = first-fit-is R n in
+      omega (arith, one-more R (firstFit R n) n each i lt, few R (firstFit R n) n each i (omega arith))
 
   pub first-fit-few : (n : ℕ) → parts (firstFit R n) n ≤ n
   first-fit-few n = few R (firstFit R n) n (first-fit-is R n) n (omega arith)

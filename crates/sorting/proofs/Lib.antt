@@ -19,8 +19,9 @@
 -- Built: the table that the build writes keeps the promise.
 --   Writing it:
 -- Tally: loops that count.
+-- Room: a local of which the first numbers are lent.
 -- Ranks: the loop that writes each rule at its place.
--- Putting: numbers written into a table from a place on.
+-- Putting: numbers written into a table one after the other.
 -- Rows: the runs by neighbouring places, a row of fields at a time.
 -- Restarting: a row with one number from a field on.
 -- Rowed: rows of fields written into a part of a table.
@@ -56,6 +57,7 @@ pub mod Reading
 pub mod Kept
 pub mod Built
 pub mod Tally
+pub mod Room
 pub mod Ranks
 pub mod Putting
 pub mod Rows

@@ -3,7 +3,7 @@
 --     opening-n, opening-d, opening-b, opening-first, opening-last      the tests in their order
 --     first-wrong, last-read                                  the last two, of a table
 --     open-length, open-broken, open-stands                   5, 6 for the opening, none of 1, 2, 3, 5 and 6
---     Opened, opened, opened-none                             a list and a table that meet none of them
+--     Opened, opened, opened-told, opened-none                a list and a table that meet none of them
 --     open-few                                                the number of an opening's refusal is at most 6
 --     open-by-length, open-by-broken, open-by-stands          the refusals, as the code works them out
 -- Assumes nothing.
@@ -131,6 +131,10 @@ opened R T = go (eqb (shapeFault R .number) 0) refl (eqb (length T) (tableLength
     go true p true q false r z = absurd (omega arith)
     go true p true q true r z =
         opened-view R T (shaped R (eqb-true (shapeFault R .number) 0 p)) (eqb-true (length T) (tableLength (rulesIn R) (fieldsOf R)) q) r
+
+-- x is the opening's refusal, as a callee gave it
+pub opened-told : (R : Rules) (T : List ℕ) (x : Refusal) → x ≡ openFault R T → x .number ≡ 0 → Opened R T
+opened-told R T x is-x z = opened R T (rw is-x at z)
 
 -- a list and a table that open meet none of the opening's refusals
 pub opened-none : {R : Rules} {T : List ℕ} → Opened R T → openFault R T ≡ none

@@ -5,7 +5,8 @@
 --     read-order, read-start                     the rule at a place; the first place of a partition
 --     read-from, read-to                         the ends of a run
 --     by-place-length, by-place-at               a part that stands place by place, field by field
---     to-order-long, to-starts-long, to-froms-long        the table up to a part's end
+--     toHead, toOrder, toStarts, toFroms, table-parts      the table up to a part's end
+--     to-order-long, to-starts-long, to-froms-long         how long that is
 -- Assumes nothing.
 use Prim.Native.Nat.{ℕ, _+_, _*_, _/_, _%_, _≤_, _<_}
 use mathlib.Core.List.{List, [], _∷_, _++_}

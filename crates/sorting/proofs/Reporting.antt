@@ -3,7 +3,7 @@
 --     report-7, report-part, seven-how               7, and what comes after it
 --     Reported, reported, report-none                a list, a table and a partition that meet no refusal
 --     opened-part                                    a partition of a table that opens
---     opened-told, report-by-7, report-by-part       the refusals, as the code works them out
+--     report-by-7, report-by-part                    the refusals, as the code works them out
 --     reported-told, reported-few, reported-within, report-by-answer      the answer, as the code works it out
 --     part-ends, rules-below                         the partition has a place, and its rule numbers are below n
 --     Smallest, reported-least, report-answers       the smallest of these; the answer
@@ -94,9 +94,6 @@ opened-part {R} {T} {q} {m} opens few is-m =
 
 -- ---- as the code works it out: x is the opening's refusal
 module _ (R : Rules) (T : List ℕ) (q : ℕ) (x : Refusal) (is-x : x ≡ openFault R T) (z : x .number ≡ 0) where
-  pub opened-told : Opened R T
-  opened-told = opened R T (rw is-x at z)
-
   pub report-by-7 : viewOf R T .b ≤ q → reportFault R T q ≡ refused NoSuchPartition
   report-by-7 many = report-7 R T q (rw is-x at z) many
 

@@ -17,15 +17,15 @@ use Rattle.lists.specs.Rules.{Rules, rulesIn, Shaped}
 use Rattle.sorting.specs.FirstFit.{partOf, Choice}
 use Rattle.sorting.specs.Opening.{viewOf}
 use Rattle.sorting.specs.Table.{placeOf, ruleAt, startOf, tableOf}
+use Rattle.sorting.specs.Promise.{Promise}
 use Rattle.sorting.specs.Report.{sizeOf, leastRule, reportOf}
 use Rattle.sorting.specs.declared.report.Part.the-variants.{Is}
 use Rattle.lists.proofs.Sound.{Sound}
 use Rattle.ranges.proofs.Counting.{count-split}
-use Rattle.sorting.proofs.Parts.{choice-parts}
 use Rattle.sorting.proofs.Places.{place-lt, rule-place, place-rule}
-use Rattle.sorting.proofs.Starts.{start-is, start-zero, start-last, start-few, start-ascend, in-part, part-of}
-use Rattle.sorting.proofs.Kept.{choice-few}
-use Rattle.sorting.proofs.Reading.{table-sized, read-rules, read-fields, read-parts, read-order, read-start}
+use Rattle.sorting.proofs.Starts.{choice-few, start-is, start-few, start-ascend, in-part, part-of}
+use Rattle.sorting.proofs.Kept.{seen-parts, seen-start, choice-keeps-promise}
+use Rattle.sorting.proofs.Reading.{table-sized, read-order}
 use Rattle.sorting.proofs.Opening.{Opened}
 use Rattle.sorting.proofs.Reporting.{Reported, Smallest, reported-least, report-answers}
 
@@ -45,43 +45,36 @@ bit-next x q = go (ltb x (suc q)) (ltb x q) (eqb x q) refl refl refl
     go false false false a b c = refl
 
 module _ {R : Rules} {run : List ℕ} {b : ℕ} (shape : Shaped R) (sound : Sound R) (choice : Choice R run b) {q : ℕ} (few : q < b) where
-  few-all : b ≤ rulesIn R
-  few-all = choice-few choice
+  kept : Promise R (viewOf R (tableOf R run))
+  kept = choice-keeps-promise sound choice
 
   start-read-off : viewOf R (tableOf R run) .start q ≡ startOf R run q
-  start-read-off = read-start R run q (omega (arith, few-all))
+  start-read-off = seen-start choice q (omega arith)
 
   next-read-off : viewOf R (tableOf R run) .start (suc q) ≡ startOf R run (suc q)
-  next-read-off = read-start R run (suc q) (omega (arith, few-all))
-
-  parts-are : viewOf R (tableOf R run) .b ≡ b
-  parts-are = read-parts R run ∙ choice-parts choice
-
-  -- place p of the partition has a rule
-  rule-below : (p : ℕ) → p < rulesIn R → viewOf R (tableOf R run) .order p < rulesIn R
-  rule-below p lt = rw (read-order R run p lt) (place-rule sound choice p lt .0)
+  next-read-off = seen-start choice (suc q) few
 
   table-opens : Opened R (tableOf R run)
   table-opens =
       record {
         shape-stands = shape;
         sized = table-sized R run;
-        rules = read-rules R run;
-        fields = read-fields R run;
-        few-parts = omega (arith, parts-are, few-all);
-        first-start = read-start R run 0 (omega arith) ∙ start-zero choice;
-        last-start = ap (viewOf R (tableOf R run) .start) parts-are ∙ read-start R run b few-all ∙ start-last choice;
+        rules = kept .rules;
+        fields = kept .fields;
+        few-parts = omega (arith, seen-parts choice, choice-few choice);
+        first-start = kept .first-start;
+        last-start = kept .last-start;
       }
 
   pub choice-reported : Reported R (tableOf R run) q
   choice-reported =
       record {
         opens = table-opens;
-        part = omega (arith, parts-are);
+        part = omega (arith, seen-parts choice);
         starts = rw (start-read-off, next-read-off, lt-ltb (startOf R run q) (startOf R run (suc q)) (start-ascend choice q few), le-leb (startOf R run (suc q)) (rulesIn R) (start-few choice (suc q) few));
         rules = all-yes (λ k. ltb (viewOf R (tableOf R run) .order (viewOf R (tableOf R run) .start q + k)) (rulesIn R)) (sizeOf (viewOf R (tableOf R run)) q)
             (λ k l. lt-ltb (viewOf R (tableOf R run) .order (viewOf R (tableOf R run) .start q + k)) (rulesIn R)
-            (rule-below (viewOf R (tableOf R run) .start q + k) (omega (arith, next-read-off, start-few choice (suc q) few))));
+            (kept .order-rule (viewOf R (tableOf R run) .start q + k) (omega (arith, next-read-off, start-few choice (suc q) few))));
       }
 
   -- the size is how many rules have this partition number

@@ -1,6 +1,6 @@
 -- First fit by stamps (`specs/Marks.antt`): holding rule i against the rules before it, one after the other, stamps the partitions
 -- that are not free for it; so the lowest partition without its stamp is the one that first fit gives it.
---     mark-old, mark-clash, mark-keep                         the stamp of one partition
+--     mark-old, mark-clash, mark-keep, part-few               the stamp of one partition
 --     Stamping, stamping-none, stamping-more, stamping-end    the stamps once rule i is held against the first j rules
 --     stamped-fit, stamped-long, stamped-fresh                it is first fit's; and the stamps are ready for the next rule
 -- Assumes nothing.

@@ -4,8 +4,9 @@ use borrow.Author.Needs.{needs}
 use mathlib.Core.Path.{sym, _∙_}
 use Rattle.lists.proofs.Faults.{by-refused}
 use Rattle.sorting.specs.declared.audit.Verdict.the-variants.{Refused}
+use Rattle.sorting.proofs.Room.{room-long}
 use Rattle.sorting.proofs.Building.{built-fine}
-use Rattle.sorting.proofs.Auditing.{table-few, table-room, table-asked, table-back, table-count, table-front, audit-yes, audit-no}
+use Rattle.sorting.proofs.Auditing.{table-few, table-asked, table-back, table-count, table-front, audit-yes, audit-no}
 use Rattle.sorting.proofs.audit.audit.Statement.{statement}
 use Rattle.sorting.proofs.audit.audit.Tie as tie
 
@@ -22,7 +23,7 @@ array-borrow-prefix-built c = table-few (built-fine _ _ _ (c .before .before .bu
 slice-aggregate-write-built : tie.Need-slice-aggregate-write-built
 slice-aggregate-write-built c =
     let t = c .before in
-    table-room (built-fine _ _ _ (t .before .before .build-fault .ensures) (t .if1 .left))
+    room-long 18436 _ (table-few (built-fine _ _ _ (t .before .before .build-fault .ensures) (t .if1 .left)))
 
 write-built-requires : tie.Need-write-built-requires
 write-built-requires c κs =

@@ -4,8 +4,7 @@ use Prim.Native.Nat.{_≤_, _-_}
 use mathlib.Core.Path.{_≡_, sym, _∙_}
 use lib.ListN.{length}
 use Rattle.sorting.specs.FirstFit.{parts}
-use Rattle.sorting.proofs.Parts.{parts-none}
-use Rattle.sorting.proofs.Choosing.{parts-turn, parts-whole}
+use Rattle.sorting.proofs.Parts.{parts-none, parts-turn, parts-whole}
 use native.Mathlib.Omega.{arith}
 use borrow.Author.Needs.{needs}
 use Rattle.sorting.proofs.choose.parts_in.Statement.{statement}

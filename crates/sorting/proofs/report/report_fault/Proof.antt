@@ -5,8 +5,8 @@ use borrow.Author.Needs.{needs}
 use mathlib.Core.Path.{sym, _∙_}
 use Rattle.lists.proofs.Faults.{by-refused}
 use Rattle.sorting.specs.Report.{reportFault}
-use Rattle.sorting.proofs.Opening.{head-read}
-use Rattle.sorting.proofs.Reporting.{opened-told, report-by-7, report-by-part, opened-part}
+use Rattle.sorting.proofs.Opening.{head-read, opened-told}
+use Rattle.sorting.proofs.Reporting.{report-by-7, report-by-part, opened-part}
 use Rattle.sorting.proofs.report.report_fault.Statement.{statement}
 use Rattle.sorting.proofs.report.report_fault.Tie as tie
 
@@ -21,8 +21,7 @@ returns c = by-refused _ _ (c .before .before .open-fault .ensures) (λ x. x) _ 
 shared-slice-read-if2 : tie.Need-shared-slice-read-if2
 shared-slice-read-if2 c =
     let t = c .before in
-    let a = t .before .before .before .before .before .args in
-    head-read (opened-told _ _ (a .part) _ (t .before .before .open-fault .ensures) (t .if1 .left) .sized) 2 (omega arith)
+    head-read (opened-told _ _ _ (t .before .before .open-fault .ensures) (t .if1 .left) .sized) 2 (omega arith)
 
 cast-if2 : tie.Need-cast-if2
 cast-if2 c = omega (arith, c .shared-slice-known3 .given 2)
@@ -43,21 +42,18 @@ rules-in-requires c κs = search needs
 cast-part-fault : tie.Need-cast-part-fault
 cast-part-fault c =
     let t = c .before .before .before in
-    let a = t .before .before .before .before .before .args in
-    omega (arith, c .rules-in .ensures, opened-told _ _ (a .part) _ (t .before .before .open-fault .ensures) (t .if1 .left) .shape-stands .few-rules)
+    omega (arith, c .rules-in .ensures, opened-told _ _ _ (t .before .before .open-fault .ensures) (t .if1 .left) .shape-stands .few-rules)
 
 cast-part-fault-2 : tie.Need-cast-part-fault-2
 cast-part-fault-2 c =
     let t = c .before .before .before in
-    let a = t .before .before .before .before .before .args in
-    let opens = opened-told _ _ (a .part) _ (t .before .before .open-fault .ensures) (t .if1 .left) in
+    let opens = opened-told _ _ _ (t .before .before .open-fault .ensures) (t .if1 .left) in
     omega (arith, opens .few-parts, opens .shape-stands .few-rules, c .before .if2 .left)
 
 part-fault-requires : tie.Need-part-fault-requires
 part-fault-requires c κs =
     let t = c .before .before .before in
-    let a = t .before .before .before .before .before .args in
-    let opens = opened-told _ _ (a .part) _ (t .before .before .open-fault .ensures) (t .if1 .left) in
+    let opens = opened-told _ _ _ (t .before .before .open-fault .ensures) (t .if1 .left) in
     opened-part opens (c .before .if2 .left) (c .rules-in .ensures)
 
 -- 6 for the partition, or none

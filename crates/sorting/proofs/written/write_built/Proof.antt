@@ -1,7 +1,8 @@
 -- `sorting::written::write_built` meets its contract: the run is first fit's, and the table is laid out with it (`Building.antt`).
 -- Assumes nothing.
 use borrow.Author.Needs.{needs}
-use Rattle.sorting.proofs.Building.{room, room-long, room-run, front-run, front-count, chosen-laying, chosen-written}
+use Rattle.sorting.proofs.Room.{room-long}
+use Rattle.sorting.proofs.Building.{room-few, room-run, chosen-fits, chosen-count, chosen-laying, chosen-written}
 use Rattle.sorting.proofs.written.write_built.Statement.{statement}
 use Rattle.sorting.proofs.written.write_built.Tie as tie
 
@@ -9,10 +10,10 @@ rules-in-requires : tie.Need-rules-in-requires
 rules-in-requires c κs = search needs
 
 array-borrow-prefix-run : tie.Need-array-borrow-prefix-run
-array-borrow-prefix-run c = room (c .before .before .before .pre) (c .rules-in .ensures)
+array-borrow-prefix-run c = room-few (c .before .before .before .pre) (c .rules-in .ensures)
 
 slice-aggregate-choose : tie.Need-slice-aggregate-choose
-slice-aggregate-choose c = room-long (c .before .before .before .before .pre) (c .before .rules-in .ensures)
+slice-aggregate-choose c = room-long 1024 _ (room-few (c .before .before .before .before .pre) (c .before .rules-in .ensures))
 
 choose-requires : tie.Need-choose-requires
 choose-requires c κs = room-run (c .before .before .before .before .pre) (c .before .rules-in .ensures)
@@ -21,13 +22,13 @@ array-share-prefix-run : tie.Need-array-share-prefix-run
 array-share-prefix-run c =
     let chosen = c .before in
     let n = chosen .before .before in
-    front-run (n .before .before .before .pre) (n .rules-in .ensures) (chosen .choose .ensures) _
+    chosen-fits (n .before .before .before .pre) (n .rules-in .ensures) (chosen .choose .ensures) _
 
 slice-aggregate-lay-out : tie.Need-slice-aggregate-lay-out
 slice-aggregate-lay-out c =
     let chosen = c .before .before in
     let n = chosen .before .before in
-    front-count (n .before .before .before .pre) (n .rules-in .ensures) (chosen .choose .ensures) _
+    chosen-count (n .before .before .before .pre) (n .rules-in .ensures) (chosen .choose .ensures) _
 
 lay-out-requires : tie.Need-lay-out-requires
 lay-out-requires c κs =
