@@ -35,7 +35,7 @@ use Rattle.text.specs.Rows.{allNumbers, valuesOf}
 use Rattle.text.proofs.Feeding.{fed-append}
 use Rattle.gateway.specs.Files.{linesOf}
 use Rattle.gateway.specs.Said.{headSaid, refusedSaid, lookedSaid}
-use Rattle.gateway.specs.RuleLines.{cellsOf, linesRead, rulesFrom, rulesFault}
+use Rattle.gateway.specs.RuleLines.{cellsOf, readingFault, rulesFrom, rulesFault}
 use Rattle.gateway.specs.RuleBytes.{RulesNow}
 use Rattle.gateway.specs.HeaderLines.{eightOf, headerOf, lineSaid, linesSaid}
 use Rattle.gateway.specs.Program.{answered, programOf, rulesEnd, printedBy, printedOf, joined, fedPieces}
@@ -45,11 +45,11 @@ use Rattle.gateway.proofs.RulesRead.{Rendered, rules-read}
 
 -- rules without a fault have at most eight fields
 stands-checked : (ls : List (List ℕ)) → rulesFault ls ≡ 0 → listFault (rulesFrom ls) .number ≡ 0
-stands-checked ls none = go (eqb (linesRead ls) 0) refl none
+stands-checked ls none = go (eqb (readingFault ls) 0) refl none
   where
-    go : (t : Bool) → eqb (linesRead ls) 0 ≡ t → pick t (listFault (rulesFrom ls) .number) (linesRead ls) ≡ 0 → listFault (rulesFrom ls) .number ≡ 0
+    go : (t : Bool) → eqb (readingFault ls) 0 ≡ t → pick t (listFault (rulesFrom ls) .number) (readingFault ls) ≡ 0 → listFault (rulesFrom ls) .number ≡ 0
     go true p e = e
-    go false p e = absurd (eqb-false (linesRead ls) 0 p e)
+    go false p e = absurd (eqb-false (readingFault ls) 0 p e)
 
 -- ---- what is printed
 module _ (y : RulesNow) (ls : List (List ℕ)) (read : Rendered ls y) (hb : List ℕ) where

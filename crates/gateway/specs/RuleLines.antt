@@ -31,7 +31,7 @@ widthFault k = pick (eqb (k % 2) 1) (numberOf BadLine) (pick (ltb 16 k) (numberO
 unfoldable pub cellsFault : ℕ → ℕ → Bool → ℕ → ℕ
 cellsFault i w good k = pick good (pick (eqb i 0) (widthFault k) (pick (eqb k w) 0 (numberOf BadLine))) (numberOf BadLine)
 
--- the same of a line's bytes
+-- a line, by what stands on it
 abbrev pub ownFault : ℕ → ℕ → List ℕ → ℕ
 ownFault i w line = cellsFault i w (allNumbers (cellsOf line)) (length (cellsOf line))
 
@@ -58,11 +58,11 @@ listOf (l ∷ ls) = valuesOf (cellsOf l) ++ listOf ls
 abbrev pub rulesFrom : List (List ℕ) → Rules
 rulesFrom ls = listed record { d = widthOf ls / 2 } (listOf ls)
 
--- the fault of a whole rules file, by its lines: the first of its lines, or 1 where there is none, and then what the list's
--- check finds, which is 4
-abbrev pub linesRead : List (List ℕ) → ℕ
-linesRead [] = numberOf BadFields
-linesRead (l ∷ ls) = linesFault 0 (widthOf (l ∷ ls)) (l ∷ ls)
+-- the fault that is found while the lines are read: 1 where there is none
+abbrev pub readingFault : List (List ℕ) → ℕ
+readingFault [] = numberOf BadFields
+readingFault (l ∷ ls) = linesFault 0 (widthOf (l ∷ ls)) (l ∷ ls)
 
+-- the fault of a whole rules file: what is found while its lines are read, and then what the list's check finds, which is 4
 abbrev pub rulesFault : List (List ℕ) → ℕ
-rulesFault ls = firstFault (linesRead ls) (listFault (rulesFrom ls) .number)
+rulesFault ls = firstFault (readingFault ls) (listFault (rulesFrom ls) .number)

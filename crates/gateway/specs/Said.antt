@@ -1,4 +1,4 @@
--- 01, The program: the lines that are printed, each ended by CRLF and of at most 64 bytes.
+-- 01, The program: the lines that are printed, each ended by CRLF.
 -- Assumes nothing: these are definitions.
 use Prim.Native.Nat.{ℕ, _≤_}
 use mathlib.Core.List.{List, _++_}
@@ -27,7 +27,7 @@ lookedSaid (Rule i t) = decimalOf i ++ testsSaid t
 lookedSaid (Nothing t) = bytes "none" ++ testsSaid t
 lookedSaid (Refused x) = refusedSaid (x .number)
 
--- a line put from a place of a run on
+-- a line of at most 64 bytes, put from a place of a run on
 pub record PutLine (out : List ℕ) (at : ℕ) (line : List ℕ) (after : List ℕ) (next : ℕ) : Type 0 where
   pub put : Put out at line after next
   pub short : length line ≤ 64
