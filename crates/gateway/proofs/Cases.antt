@@ -12,9 +12,9 @@ use Rattle.lists.specs.FirstMatch.{fits}
 use Rattle.lists.specs.Faults.{shapeFault, badRule, endsFault}
 use Rattle.sorting.specs.Order.{standingOf, compare}
 use Rattle.sorting.specs.FirstFit.{fitOf, firstFit, parts}
-use Rattle.sorting.specs.Layout.{tableLength, orderAt, startAt, fromAt, toAt}
+use Rattle.tables.specs.Layout.{tableLength, orderAt, startAt, fromAt, toAt}
 use Rattle.sorting.specs.Table.{placeOf, ruleAt, startOf, runFrom, runTo, tableOf}
-use Rattle.sorting.specs.Opening.{opening, openFault}
+use Rattle.tables.specs.Opening.{opening, openFault}
 use Rattle.lookup.specs.Walk.{runStands, stepAt, arrivedOf, walkFrom}
 use Rattle.lookup.specs.Lookup.{visitOf, lookupFrom, lookupOf}
 use Rattle.text.specs.Cells.{isDigit}

@@ -19,7 +19,7 @@ use Rattle.ranges.specs.declared.refusal.Count.{Count}
 use Rattle.lists.specs.Rules.{Rules as Listed, listed, fieldsOf, rulesIn}
 use Rattle.lists.specs.declared.shape.Shape.{Shape}
 use Rattle.lists.specs.Faults.{listFault}
-use Rattle.sorting.specs.Layout.{tableLength}
+use Rattle.tables.specs.Layout.{tableLength}
 use Rattle.sorting.specs.Build.{Built}
 use Rattle.lists.proofs.Sound.{list-shaped}
 use Rattle.sorting.proofs.BuildFaults.{fault-none}

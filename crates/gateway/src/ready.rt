@@ -6,7 +6,7 @@ use lists::shape::rules_in;
 use ranges::refusal::BAD_FIELDS;
 use ranges::refusal::BAD_LINE;
 use sorting::build::build;
-use sorting::layout::table_length;
+use tables::layout::table_length;
 ghost use mathlib.Core.Path.{_≡_};
 ghost use Prim.Native.Nat.{_*_, _≤_};
 ghost use lib.ListN.{length};

@@ -34,8 +34,8 @@ use Rattle.lists.specs.declared.scan.Match.the-variants as match
 use Rattle.lists.specs.declared.independence.Pair.the-variants as pair
 use Rattle.sorting.specs.Build.{buildFault, builtParts, buildOf, sameNumbers, auditOf, saysVerdict}
 use Rattle.sorting.specs.Report.{sizeOf, leastRule, reportFault, reportOf, saysPart}
-use Rattle.sorting.specs.Layout.{View}
-use Rattle.sorting.specs.Opening.{viewOf, openFault}
+use Rattle.tables.specs.Layout.{View}
+use Rattle.tables.specs.Opening.{viewOf, openFault}
 use Rattle.sorting.specs.Table.{builtTable}
 use Rattle.sorting.specs.declared.audit.Verdict.the-variants as verdict
 use Rattle.sorting.specs.declared.report.Part.the-variants as part

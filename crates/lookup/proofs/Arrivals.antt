@@ -13,7 +13,7 @@ use Rattle.ranges.proofs.Numbers.{never}
 use Rattle.lists.specs.Rules.{Rules, fieldsOf, rulesIn}
 use Rattle.lists.specs.FirstMatch.{fits}
 use Rattle.lists.specs.Scan.{fitsIn}
-use Rattle.sorting.specs.Layout.{View}
+use Rattle.tables.specs.Layout.{View}
 use Rattle.lookup.specs.Walk.{arrivedOf}
 use Rattle.lookup.specs.declared.walk.Found.{Found}
 use Rattle.lookup.specs.declared.walk.Found.the-variants.{Hit}

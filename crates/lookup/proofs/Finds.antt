@@ -15,7 +15,7 @@ use Rattle.ranges.specs.declared.side.Side.the-variants.{Below, Above, Inside}
 use Rattle.ranges.proofs.Sides.{is-below, is-above, is-inside}
 use Rattle.lists.specs.Rules.{Rules, fieldsOf, rulesIn, lowOf, highOf}
 use Rattle.lists.specs.FirstMatch.{sideAt, fits}
-use Rattle.sorting.specs.Layout.{View}
+use Rattle.tables.specs.Layout.{View}
 use Rattle.sorting.specs.Promise.{InPart, Promise}
 use Rattle.lookup.specs.Walk.{midOf, leaves, stepAt, walkFrom}
 use Rattle.lookup.specs.declared.walk.Found.{Found}

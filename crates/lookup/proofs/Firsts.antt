@@ -21,10 +21,10 @@ use Rattle.lists.specs.Rules.{Rules, fieldsOf, rulesIn}
 use Rattle.lists.specs.FirstMatch.{fits, firstMatch}
 use Rattle.lists.proofs.Rules.{Shaped}
 use Rattle.lists.proofs.Faults.{shape-stands}
-use Rattle.sorting.specs.Layout.{View, TableFor}
-use Rattle.sorting.specs.Opening.{viewOf, openFault}
+use Rattle.tables.specs.Layout.{View, TableFor}
+use Rattle.tables.specs.Opening.{viewOf, openFault}
 use Rattle.sorting.specs.Promise.{InPart, Promise}
-use Rattle.sorting.proofs.Opening.{opening-last, open-stands}
+use Rattle.tables.proofs.Opened.{opening-last, open-stands}
 use Rattle.lookup.specs.Lookup.{visitOf, better, answerOf, lookupFrom, searchOf, lookupOf}
 use Rattle.lookup.specs.declared.walk.Found.{Found}
 use Rattle.lookup.specs.declared.walk.Found.the-variants.{Hit, Miss}

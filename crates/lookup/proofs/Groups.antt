@@ -25,7 +25,7 @@ use Rattle.ranges.proofs.Numbers.{all-yes, all-at}
 use Rattle.ranges.proofs.Sides.{inside-at, inside-yes}
 use Rattle.lists.specs.Rules.{Rules, fieldsOf, rulesIn, lowOf, highOf, endsAt}
 use Rattle.lists.specs.FirstMatch.{insideAt, fits}
-use Rattle.sorting.specs.Layout.{View}
+use Rattle.tables.specs.Layout.{View}
 use Rattle.sorting.specs.Order.{compare, isAlike}
 use Rattle.sorting.specs.Promise.{InPart, Run, Promise}
 use Rattle.sorting.specs.declared.order.Standing.the-variants.{Alike}

@@ -11,9 +11,9 @@ use lib.ListN.{length, getD}
 use borrow.Author.Tests.{eq-eqb, ne-eqb}
 use Rattle.ranges.specs.declared.refusal.Refusal.{Refusal}
 use Rattle.lists.specs.Rules.{Rules, fieldsOf, rulesIn}
-use Rattle.sorting.specs.Layout.{view, partsAt}
-use Rattle.sorting.specs.Opening.{viewOf, openFault}
-use Rattle.sorting.proofs.Opening.{Opened, opened, head-read}
+use Rattle.tables.specs.Layout.{view, partsAt}
+use Rattle.tables.specs.Opening.{viewOf, openFault}
+use Rattle.tables.proofs.Opened.{Opened, opened, head-read}
 use Rattle.lookup.specs.Lent.{Ready}
 use Rattle.lookup.specs.Lookup.{lookupFrom, searchOf, lookupOf}
 use Rattle.lookup.specs.declared.lookup.Looked.{Looked}

@@ -9,7 +9,7 @@ use mathlib.Core.Path.{_≡_, sym, subst}
 use Rattle.ranges.proofs.Numbers.{never}
 use Rattle.lists.specs.Rules.{Rules, rulesIn}
 use Rattle.lists.specs.FirstMatch.{fits}
-use Rattle.sorting.specs.Layout.{View}
+use Rattle.tables.specs.Layout.{View}
 use Rattle.lookup.specs.Walk.{arrivedOf, walkFrom}
 use Rattle.lookup.specs.declared.walk.Found.the-variants.{Hit}
 use Rattle.lookup.specs.declared.walk.Walked.{Walked}

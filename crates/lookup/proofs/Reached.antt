@@ -27,8 +27,8 @@ use Rattle.lists.specs.FirstMatch.{sideAt, insideAt, fits}
 use Rattle.lists.specs.Faults.{shapeFault, listFault}
 use Rattle.lists.proofs.Rules.{row-inside}
 use Rattle.lists.proofs.Faults.{shape-stands, shaped}
-use Rattle.sorting.specs.Layout.{View}
-use Rattle.sorting.specs.Opening.{viewOf}
+use Rattle.tables.specs.Layout.{View}
+use Rattle.tables.specs.Opening.{viewOf}
 use Rattle.sorting.specs.Order.{compare, isClash, before, clash}
 use Rattle.sorting.specs.FirstFit.{partOf, firstFit}
 use Rattle.sorting.specs.Promise.{InPart, Promise}

@@ -17,8 +17,8 @@ use Rattle.ranges.specs.declared.refusal.Refusal.{Refusal}
 use Rattle.ranges.proofs.Numbers.{never}
 use Rattle.lists.specs.Rules.{Rules, fieldsOf, rulesIn}
 use Rattle.lists.specs.Faults.{shapeFault}
-use Rattle.sorting.specs.Layout.{View, tableLength}
-use Rattle.sorting.specs.Opening.{opening, viewOf, openFault}
+use Rattle.tables.specs.Layout.{View, tableLength}
+use Rattle.tables.specs.Opening.{opening, viewOf, openFault}
 use Rattle.lookup.specs.Lookup.{visitOf, better, answerOf, lookupFrom, searchOf, lookupOf}
 use Rattle.lookup.specs.Bounds.{refuses}
 use Rattle.lookup.specs.declared.walk.Walked.{Walked}

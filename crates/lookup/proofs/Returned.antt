@@ -14,8 +14,8 @@ use Rattle.ranges.specs.Numbers.{pick}
 use Rattle.ranges.specs.Refusals.{stands}
 use Rattle.ranges.proofs.Numbers.{never}
 use Rattle.lists.specs.Rules.{Rules, rulesIn}
-use Rattle.sorting.specs.Layout.{View}
-use Rattle.sorting.specs.Opening.{viewOf, openFault}
+use Rattle.tables.specs.Layout.{View}
+use Rattle.tables.specs.Opening.{viewOf, openFault}
 use Rattle.lookup.specs.Lookup.{visitOf, better, afterVisit, lookupFrom, searchOf, lookupOf}
 use Rattle.lookup.specs.declared.walk.Found.{Found}
 use Rattle.lookup.specs.declared.walk.Found.the-variants.{Hit, Miss}

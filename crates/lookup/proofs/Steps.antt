@@ -19,7 +19,7 @@ use Rattle.ranges.specs.declared.side.Side.the-variants.{Below, Above, Inside}
 use Rattle.ranges.proofs.Numbers.{never, and-left, and-right}
 use Rattle.lists.specs.Rules.{Rules, rulesIn}
 use Rattle.lists.specs.FirstMatch.{sideAt}
-use Rattle.sorting.specs.Layout.{View}
+use Rattle.tables.specs.Layout.{View}
 use Rattle.lookup.specs.Walk.{midOf, runStands, leaves, stepAt, stepOf}
 use Rattle.lookup.specs.declared.walk.Step.{Step}
 use Rattle.lookup.specs.declared.walk.Step.the-variants.{On, Fault}

@@ -41,9 +41,9 @@ use Rattle.lists.specs.Rules.{Rules, fieldsOf, rulesIn}
 use Rattle.lists.specs.FirstMatch.{fits, firstMatch}
 use Rattle.lists.specs.Faults.{listFault}
 use Rattle.lists.proofs.Rules.{Shaped}
-use Rattle.sorting.specs.Layout.{TableFor}
+use Rattle.tables.specs.Layout.{TableFor}
 use Rattle.sorting.specs.FirstFit.{Choice, firstFit}
-use Rattle.sorting.specs.Opening.{viewOf, openFault}
+use Rattle.tables.specs.Opening.{viewOf, openFault}
 use Rattle.sorting.specs.Promise.{Promise}
 use Rattle.sorting.specs.Table.{tableOf, builtTable}
 use Rattle.sorting.specs.Build.{buildOf, tableAfter}

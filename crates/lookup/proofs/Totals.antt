@@ -17,9 +17,9 @@ use borrow.Author.Tests.{le-ltb, ltb-true, ltb-false, eqb-true}
 use Rattle.ranges.specs.Numbers.{pick}
 use Rattle.ranges.proofs.Numbers.{never}
 use Rattle.lists.specs.Rules.{Rules, fieldsOf, rulesIn}
-use Rattle.sorting.specs.Layout.{View}
-use Rattle.sorting.specs.Opening.{viewOf, openFault}
-use Rattle.sorting.proofs.Opening.{opened}
+use Rattle.tables.specs.Layout.{View}
+use Rattle.tables.specs.Opening.{viewOf, openFault}
+use Rattle.tables.proofs.Opened.{opened}
 use Rattle.lookup.specs.Lookup.{visitOf, better, afterVisit, answerOf, lookupFrom, searchOf, lookupOf, testsIn}
 use Rattle.lookup.specs.Bounds.{PowerWithin, testsOf, sumFrom, refuses}
 use Rattle.lookup.specs.declared.walk.Walked.{Walked}

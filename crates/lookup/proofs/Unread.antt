@@ -14,8 +14,8 @@ use borrow.Author.Tests.{leb-false}
 use Rattle.ranges.specs.Numbers.{pick}
 use Rattle.lists.specs.Rules.{Rules, fieldsOf, rulesIn}
 use Rattle.lists.proofs.Fitting.{fits-same}
-use Rattle.sorting.specs.Layout.{View}
-use Rattle.sorting.specs.Opening.{viewOf}
+use Rattle.tables.specs.Layout.{View}
+use Rattle.tables.specs.Opening.{viewOf}
 use Rattle.lookup.specs.Walk.{stepAt, stepOf, afterStep, arrivedOf, walkFrom}
 use Rattle.lookup.specs.Lookup.{visitOf, better, afterVisit, lookupFrom, lookupOf}
 use Rattle.lookup.specs.declared.walk.Found.the-variants.{Miss}

@@ -16,7 +16,7 @@ use Rattle.ranges.specs.Numbers.{pick, _and_}
 use Rattle.ranges.specs.Refusals.{refused, BrokenTable}
 use Rattle.ranges.proofs.Numbers.{never}
 use Rattle.lists.specs.Rules.{Rules, fieldsOf, rulesIn}
-use Rattle.sorting.specs.Layout.{View}
+use Rattle.tables.specs.Layout.{View}
 use Rattle.lookup.specs.Walk.{walkFrom}
 use Rattle.lookup.specs.Packed.{packed, unpacked}
 use Rattle.lookup.specs.Lookup.{visitOf, better, answerOf, lookupFrom}

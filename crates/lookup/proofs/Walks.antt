@@ -13,7 +13,7 @@ use lib.Dec.{leb}
 use borrow.Author.Tests.{le-leb, lt-leb, leb-true, leb-false}
 use Rattle.ranges.specs.Numbers.{pick}
 use Rattle.lists.specs.Rules.{Rules, fieldsOf}
-use Rattle.sorting.specs.Layout.{View}
+use Rattle.tables.specs.Layout.{View}
 use Rattle.lookup.specs.Walk.{stepOf, afterStep, arrivedOf, walkFrom}
 use Rattle.lookup.specs.Packed.{packed}
 use Rattle.lookup.specs.declared.walk.Found.the-variants.{Miss}

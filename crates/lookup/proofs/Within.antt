@@ -9,8 +9,8 @@ use native.Mathlib.Omega.{arith}
 use lib.ListN.{length}
 use Rattle.lists.specs.Rules.{Rules, HasCell, fieldsOf, rulesIn, cellOf}
 use Rattle.lists.proofs.Rules.{row-inside}
-use Rattle.sorting.specs.Layout.{orderAt, startAt, fromAt, toAt}
-use Rattle.sorting.proofs.Offsets.{order-inside, start-inside, from-inside, to-inside}
+use Rattle.tables.specs.Layout.{orderAt, startAt, fromAt, toAt}
+use Rattle.tables.proofs.Offsets.{order-inside, start-inside, from-inside, to-inside}
 use Rattle.lookup.specs.Lent.{Ready}
 
 -- at most 1,024 rules

@@ -6,7 +6,7 @@ use mathlib.Core.List.{List}
 use mathlib.Core.Path.{_≡_}
 use lib.ListN.{length}
 use Rattle.lists.specs.Rules.{Rules, fieldsOf, rulesIn}
-use Rattle.sorting.specs.Layout.{tableLength}
+use Rattle.tables.specs.Layout.{tableLength}
 
 -- a list of n rules and a table, both of the right length
 pub record Ready (R : Rules) (n : ℕ) (T : List ℕ) : Type 0 where

@@ -6,8 +6,8 @@ use lib.Dec.{ltb}
 use Rattle.ranges.specs.Numbers.{pick}
 use Rattle.ranges.specs.Refusals.{none, refused, stands, Said, saidOf, BrokenTable}
 use Rattle.lists.specs.Rules.{Rules, fieldsOf, rulesIn}
-use Rattle.sorting.specs.Layout.{View}
-use Rattle.sorting.specs.Opening.{partStands, viewOf, openFault}
+use Rattle.tables.specs.Layout.{View}
+use Rattle.tables.specs.Opening.{partStands, viewOf, openFault}
 use Rattle.lookup.specs.Walk.{walkFrom}
 use Rattle.lookup.specs.declared.walk.Found.{Found}
 use Rattle.lookup.specs.declared.walk.Found.the-variants.{Hit, Miss}

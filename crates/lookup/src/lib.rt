@@ -1,8 +1,8 @@
 // Layer 4: a header looked up in a sorted table.
 //
 // Renders 01's section 'The walk' and, of 'Refusal numbers', what is said of a lookup. The programs may cite it; it cites
-// `ranges`, `lists` and, of `sorting`, the layout and what a table promises (`specs/Promise.antt`), and nothing of how a
-// table is made.
+// `ranges`, `lists`, `tables` and, of `sorting`, what a table promises (`specs/Promise.antt`), and nothing of how a table is
+// made.
 //
 // What it answers. `lookup` gives the smallest rule number that fits a header, or none, with the number of range tests
 // made; or a refusal, 1, 2, 3, 5 or 6. It never gives 4, since it does not read the whole list.

@@ -8,14 +8,14 @@ use lists::shape::rules_in;
 use ranges::refusal::BROKEN_TABLE;
 use ranges::refusal::Refusal;
 use ranges::refusal::refuse;
-use sorting::layout::PARTS_AT;
-use sorting::layout::open_fault;
-use sorting::layout::start_at;
+use tables::layout::PARTS_AT;
+use tables::layout::start_at;
+use tables::opening::open_fault;
 ghost use mathlib.Core.Path.{_≡_};
 ghost use Prim.Native.Nat.{_<_, _≤_};
 ghost use lib.ListN.{length, getD};
 ghost use Rattle.lists.specs.Rules.{listed};
-ghost use Rattle.sorting.specs.Layout.{startAt, view};
+ghost use Rattle.tables.specs.Layout.{startAt, view};
 ghost use Rattle.lookup.specs.Lent.{Ready};
 ghost use Rattle.lookup.specs.Lookup.{visitOf, lookupFrom, lookupOf};
 

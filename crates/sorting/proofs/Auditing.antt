@@ -17,7 +17,7 @@ use borrow.Author.Tests.{eq-eqb, eqb-true}
 use Rattle.ranges.specs.declared.refusal.Refusal.{Refusal}
 use Rattle.ranges.proofs.Numbers.{all-yes, all-at}
 use Rattle.lists.specs.Rules.{Rules, fieldsOf, rulesIn}
-use Rattle.sorting.specs.Layout.{tableLength}
+use Rattle.tables.specs.Layout.{tableLength}
 use Rattle.sorting.specs.Table.{builtTable}
 use Rattle.sorting.specs.Asked.{Buildable}
 use Rattle.sorting.specs.Build.{buildFault, sameNumbers, auditOf}

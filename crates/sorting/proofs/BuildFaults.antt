@@ -18,7 +18,7 @@ use Rattle.ranges.proofs.Numbers.{true-not-false}
 use Rattle.lists.specs.Rules.{Rules, fieldsOf, rulesIn, isVoid}
 use Rattle.lists.specs.Faults.{shapeFault, badRule, endsFault, listFault}
 use Rattle.lists.proofs.Faults.{shape-few}
-use Rattle.sorting.specs.Layout.{tableLength}
+use Rattle.tables.specs.Layout.{tableLength}
 use Rattle.sorting.specs.Asked.{Buildable}
 use Rattle.sorting.specs.Build.{buildFault}
 

@@ -6,7 +6,7 @@
 use mathlib.Core.Path.{_≡_}
 use Rattle.lists.specs.Rules.{Rules}
 use Rattle.lists.specs.Faults.{listFault}
-use Rattle.sorting.specs.Opening.{viewOf}
+use Rattle.tables.specs.Opening.{viewOf}
 use Rattle.sorting.specs.Promise.{Promise}
 use Rattle.sorting.specs.Table.{builtTable}
 use Rattle.lists.proofs.Sound.{Sound, list-sound}

@@ -13,7 +13,7 @@ use Rattle.lists.specs.Faults.{shapeFault, badRule, endsFault, listFault}
 use Rattle.sorting.specs.Order.{standingOf, compare}
 use Rattle.sorting.specs.FirstFit.{fitOf, firstFit, parts}
 use Rattle.sorting.specs.Table.{placeOf, ruleAt, startOf, runFrom, runTo, tableOf, builtTable}
-use Rattle.sorting.specs.Opening.{viewOf}
+use Rattle.tables.specs.Opening.{viewOf}
 use Rattle.sorting.specs.Promise.{Promise}
 use Rattle.sorting.proofs.Built.{list-keeps-promise}
 

@@ -5,18 +5,6 @@
 use mathlib.Core.Path.{sym, _∙_}
 use denote.Ref.{now}
 use Rattle.ranges.proofs.OneAnswer.{OneAnswer, OneRun}
-use Rattle.sorting.proofs.layout.table_length.Kinds as table-length-kinds
-use Rattle.sorting.proofs.layout.table_length.Reads as table-length
-use Rattle.sorting.proofs.layout.order_at.Kinds as order-at-kinds
-use Rattle.sorting.proofs.layout.order_at.Reads as order-at
-use Rattle.sorting.proofs.layout.start_at.Kinds as start-at-kinds
-use Rattle.sorting.proofs.layout.start_at.Reads as start-at
-use Rattle.sorting.proofs.layout.from_at.Kinds as from-at-kinds
-use Rattle.sorting.proofs.layout.from_at.Reads as from-at
-use Rattle.sorting.proofs.layout.to_at.Kinds as to-at-kinds
-use Rattle.sorting.proofs.layout.to_at.Reads as to-at
-use Rattle.sorting.proofs.layout.open_fault.Kinds as open-fault-kinds
-use Rattle.sorting.proofs.layout.open_fault.Reads as open-fault
 use Rattle.sorting.proofs.build.build_fault.Kinds as build-fault-kinds
 use Rattle.sorting.proofs.build.build_fault.Reads as build-fault
 use Rattle.sorting.proofs.build.build.Kinds as build-kinds
@@ -25,24 +13,6 @@ use Rattle.sorting.proofs.audit.audit.Kinds as audit-kinds
 use Rattle.sorting.proofs.audit.audit.Reads as audit
 use Rattle.sorting.proofs.report.report.Kinds as report-kinds
 use Rattle.sorting.proofs.report.report.Reads as report
-
-pub table-length-one : OneAnswer 0 table-length-kinds.ps table-length-kinds.r table-length.Learnt
-table-length-one κs a x y e g p q = p ∙ sym q
-
-pub order-at-one : OneAnswer 0 order-at-kinds.ps order-at-kinds.r order-at.Learnt
-order-at-one κs a x y e g p q = p ∙ sym q
-
-pub start-at-one : OneAnswer 0 start-at-kinds.ps start-at-kinds.r start-at.Learnt
-start-at-one κs a x y e g p q = p ∙ sym q
-
-pub from-at-one : OneAnswer 0 from-at-kinds.ps from-at-kinds.r from-at.Learnt
-from-at-one κs a x y e g p q = p ∙ sym q
-
-pub to-at-one : OneAnswer 0 to-at-kinds.ps to-at-kinds.r to-at.Learnt
-to-at-one κs a x y e g p q = p ∙ sym q
-
-pub open-fault-one : OneAnswer 2 open-fault-kinds.ps open-fault-kinds.r open-fault.Learnt
-open-fault-one κs a x y e g p q = p ∙ sym q
 
 pub build-fault-one : OneAnswer 2 build-fault-kinds.ps build-fault-kinds.r build-fault.Learnt
 build-fault-one κs a x y e g p q = p ∙ sym q

@@ -10,7 +10,6 @@
 -- Stamps: first fit by stamps.
 -- Choosing: the loop that takes one rule after the other.
 --   The table:
--- Offsets: every part of a table lies within it.
 -- Places: the place of a rule, the rule at a place.
 -- Starts: what stands between two starts is one partition.
 -- Runs: the stretch of places that a run is, and its ends by neighbouring places.
@@ -30,7 +29,6 @@
 -- BuildFaults: which of 1 to 5 a list and a table meet.
 -- Building: what a build writes where they meet none.
 --   Reading it:
--- Opening: which refusal an opening meets, and what a table is that opens.
 -- Auditing: a table held against what the build writes.
 -- Minimum: the smallest of several numbers.
 -- PartPlaces: the starts and places of a partition, as the code reads them.
@@ -49,7 +47,6 @@ pub mod Parts
 pub mod FirstFits
 pub mod Stamps
 pub mod Choosing
-pub mod Offsets
 pub mod Places
 pub mod Starts
 pub mod Runs
@@ -67,7 +64,6 @@ pub mod RowByRow
 pub mod Laid
 pub mod BuildFaults
 pub mod Building
-pub mod Opening
 pub mod Auditing
 pub mod Minimum
 pub mod PartPlaces

@@ -16,8 +16,8 @@ use lib.Dec.{ltb, leb}
 use borrow.Author.Tests.{lt-ltb, le-ltb, ltb-true, leb-true}
 use Rattle.ranges.specs.Numbers.{_and_, all}
 use Rattle.ranges.proofs.Numbers.{and-left, and-right}
-use Rattle.sorting.specs.Layout.{orderAt, startAt}
-use Rattle.sorting.specs.Opening.{partStands}
+use Rattle.tables.specs.Layout.{orderAt, startAt}
+use Rattle.tables.specs.Opening.{partStands}
 use Rattle.sorting.specs.Asked.{PartOf, PartWithin}
 use Rattle.sorting.specs.Report.{smallest, placesIn, sizeOf, rulesStand, leastRule}
 

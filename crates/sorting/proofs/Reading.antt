@@ -1,4 +1,4 @@
--- Reading the table of a list and a run of partition numbers gives back its parts (`specs/Table.antt`, `specs/Layout.antt`).
+-- Reading the table of a list and a run of partition numbers gives back its parts (`specs/Table.antt`; `tables`, `specs/Layout.antt`).
 --     within, past                               a list in two parts
 --     table-sized                                the table's length
 --     read-rules, read-fields, read-parts        n, d, b
@@ -20,8 +20,8 @@ use Rattle.ranges.proofs.Numbers.{tab-length, tab-at}
 use Rattle.lists.specs.Rules.{Rules, fieldsOf, rulesIn}
 use Rattle.lists.proofs.Rules.{row-inside}
 use Rattle.sorting.specs.FirstFit.{parts}
-use Rattle.sorting.specs.Layout.{TableFor, tableLength, orderAt, startAt, fromAt, toAt}
-use Rattle.sorting.specs.Opening.{viewOf}
+use Rattle.tables.specs.Layout.{TableFor, tableLength, orderAt, startAt, fromAt, toAt}
+use Rattle.tables.specs.Opening.{viewOf}
 use Rattle.sorting.specs.Table.{ruleAt, startOf, runFrom, runTo, byPlace, tableOf}
 
 -- ---- a list in two parts, the first of n numbers

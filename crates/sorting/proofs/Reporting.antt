@@ -20,13 +20,13 @@ use Rattle.ranges.specs.Refusals.{none, refused, stands, BrokenTable, NoSuchPar
 use Rattle.ranges.specs.declared.refusal.Refusal.{Refusal}
 use Rattle.ranges.proofs.Numbers.{true-not-false, and-left, all-at}
 use Rattle.lists.specs.Rules.{Rules, fieldsOf, rulesIn}
-use Rattle.sorting.specs.Layout.{View}
-use Rattle.sorting.specs.Opening.{partStands, viewOf, openFault}
+use Rattle.tables.specs.Layout.{View}
+use Rattle.tables.specs.Opening.{partStands, viewOf, openFault}
 use Rattle.sorting.specs.Asked.{PartOf, PartWithin}
 use Rattle.sorting.specs.Report.{placesIn, sizeOf, rulesStand, leastRule, partFault, reportFault, reportOf}
 use Rattle.sorting.specs.declared.report.Part.the-variants.{Is}
-use Rattle.sorting.proofs.Offsets.{order-inside, start-inside}
-use Rattle.sorting.proofs.Opening.{Opened, opened, opened-none, open-few}
+use Rattle.tables.proofs.Offsets.{order-inside, start-inside}
+use Rattle.tables.proofs.Opened.{Opened, opened, opened-none, open-few}
 use Rattle.sorting.proofs.Minimum.{smallest-le, smallest-at}
 use Rattle.sorting.proofs.PartPlaces.{part-within}
 

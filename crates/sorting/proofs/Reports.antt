@@ -15,7 +15,7 @@ use Rattle.ranges.specs.Numbers.{bit, count, least}
 use Rattle.ranges.proofs.Numbers.{all-yes, least-is}
 use Rattle.lists.specs.Rules.{Rules, rulesIn, Shaped}
 use Rattle.sorting.specs.FirstFit.{partOf, Choice}
-use Rattle.sorting.specs.Opening.{viewOf}
+use Rattle.tables.specs.Opening.{viewOf}
 use Rattle.sorting.specs.Table.{placeOf, ruleAt, startOf, tableOf}
 use Rattle.sorting.specs.Promise.{Promise}
 use Rattle.sorting.specs.Report.{sizeOf, leastRule, reportOf}
@@ -26,7 +26,7 @@ use Rattle.sorting.proofs.Places.{place-lt, rule-place, place-rule}
 use Rattle.sorting.proofs.Starts.{choice-few, start-is, start-few, start-ascend, in-part, part-of}
 use Rattle.sorting.proofs.Kept.{seen-parts, seen-start, choice-keeps-promise}
 use Rattle.sorting.proofs.Reading.{table-sized, read-order}
-use Rattle.sorting.proofs.Opening.{Opened}
+use Rattle.tables.proofs.Opened.{Opened}
 use Rattle.sorting.proofs.Reporting.{Reported, Smallest, reported-least, report-answers}
 
 -- a number below suc q is below q, or q itself

@@ -8,7 +8,7 @@ use Rattle.lists.specs.Rules.{Rules, fieldsOf, rulesIn, Shaped}
 use Rattle.lists.specs.Faults.{listFault}
 use Rattle.ranges.specs.Numbers.{tab}
 use Rattle.sorting.specs.FirstFit.{Choice, parts}
-use Rattle.sorting.specs.Layout.{TableFor, orderAt, startAt}
+use Rattle.tables.specs.Layout.{TableFor, orderAt, startAt}
 use Rattle.sorting.specs.Table.{ruleAt}
 
 -- field f of rule i, of a list whose shape stands

@@ -14,7 +14,7 @@ use Rattle.ranges.specs.declared.refusal.Count.{Count}
 use Rattle.lists.specs.Rules.{Rules, rulesIn}
 use Rattle.lists.specs.Faults.{listFault}
 use Rattle.sorting.specs.FirstFit.{firstFit, parts}
-use Rattle.sorting.specs.Opening.{tableFault}
+use Rattle.tables.specs.Opening.{tableFault}
 use Rattle.sorting.specs.Table.{builtTable}
 use Rattle.sorting.specs.declared.audit.Verdict.{Verdict}
 use Rattle.sorting.specs.declared.audit.Verdict.the-variants.{Yes, No, Refused}

@@ -7,7 +7,7 @@ use mathlib.Core.Bool.{true}
 use mathlib.Core.Path.{_≡_}
 use Rattle.lists.specs.Rules.{Rules, fieldsOf, rulesIn, lowOf, endsAt}
 use Rattle.sorting.specs.Order.{alike, before}
-use Rattle.sorting.specs.Layout.{View}
+use Rattle.tables.specs.Layout.{View}
 
 -- place p is one of partition q
 pub record InPart (v : View) (q p : ℕ) : Type 0 where

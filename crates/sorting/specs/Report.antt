@@ -10,8 +10,8 @@ use Rattle.ranges.specs.Numbers.{pick, _and_, all}
 use Rattle.ranges.specs.Refusals.{none, refused, orElse, stands, Said, saidOf, BrokenTable, NoSuchPartition}
 use Rattle.ranges.specs.declared.refusal.Refusal.{Refusal}
 use Rattle.lists.specs.Rules.{Rules, rulesIn}
-use Rattle.sorting.specs.Layout.{View, view}
-use Rattle.sorting.specs.Opening.{partStands, viewOf, openFault}
+use Rattle.tables.specs.Layout.{View, view}
+use Rattle.tables.specs.Opening.{partStands, viewOf, openFault}
 use Rattle.sorting.specs.declared.report.Part.{Part}
 use Rattle.sorting.specs.declared.report.Part.the-variants.{Is, Refused}
 

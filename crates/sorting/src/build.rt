@@ -1,5 +1,4 @@
 // The build of a table, with its refusals.
-use crate::layout::table_length;
 use crate::written::write_built;
 use lists::check::list_fault;
 use lists::shape::Shape;
@@ -8,6 +7,7 @@ use ranges::refusal::BAD_TABLE_LENGTH;
 use ranges::refusal::Count;
 use ranges::refusal::Refusal;
 use ranges::refusal::refuse;
+use tables::layout::table_length;
 ghost use mathlib.Core.Path.{_≡_};
 ghost use Rattle.lists.specs.Rules.{listed};
 ghost use Rattle.sorting.specs.Build.{buildFault, Built};

@@ -2,10 +2,7 @@
 //
 // Renders 01's sections 'Order and partitions', 'The working table' and, of 'Refusal numbers' and 'Other answers',
 // what is said of a build, an audit and a report. The crates of the lookup and the programs may cite it; it cites
-// `ranges` and `lists`. What a lookup may rely on is `specs/Promise.antt` alone.
-//
-// The table. n, d and b; the rules in the order of their places; the starts of the partitions; for every place and
-// field, where its run begins and where it ends. `layout.rt` alone knows where a part stands.
+// `ranges`, `lists` and, for where a table's numbers stand, `tables`. What a lookup may rely on is `specs/Promise.antt` alone.
 //
 // First fit by marks (`choose.rt`). A rule is held against every rule before it, once; where the two clash, the other
 // rule's partition gets this rule's stamp, and a partition that has it is not looked at again. The rule goes to the
@@ -21,7 +18,6 @@ pub mod audit;
 pub mod build;
 mod choose;
 mod lay_out;
-pub mod layout;
 mod order;
 pub mod report;
 mod written;

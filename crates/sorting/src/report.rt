@@ -1,20 +1,20 @@
 // The report on a partition, by reading its places.
-use crate::layout::PARTS_AT;
-use crate::layout::open_fault;
-use crate::layout::order_at;
-use crate::layout::start_at;
 use lists::shape::Shape;
 use lists::shape::rules_in;
 use ranges::refusal::BROKEN_TABLE;
 use ranges::refusal::NO_SUCH_PARTITION;
 use ranges::refusal::Refusal;
 use ranges::refusal::refuse;
+use tables::layout::PARTS_AT;
+use tables::layout::order_at;
+use tables::layout::start_at;
+use tables::opening::open_fault;
 ghost use mathlib.Core.Path.{_≡_};
 ghost use Prim.Native.Nat.{min, _<_};
 ghost use lib.ListN.{length};
 ghost use Rattle.lists.specs.Rules.{listed};
-ghost use Rattle.sorting.specs.Layout.{orderAt, startAt};
-ghost use Rattle.sorting.specs.Opening.{partStands};
+ghost use Rattle.tables.specs.Layout.{orderAt, startAt};
+ghost use Rattle.tables.specs.Opening.{partStands};
 ghost use Rattle.sorting.specs.Asked.{PartOf, PartWithin};
 ghost use Rattle.sorting.specs.Report.{placesIn, sizeOf, rulesStand, leastRule, partFault, reportFault, reportOf};
 

@@ -6,7 +6,7 @@ use mathlib.Core.Path.{sym, ap, _∙_}
 use native.Mathlib.Omega.{arith}
 use Prim.Native.Nat.{_-_, _≤_}
 use Rattle.lists.specs.Rules.{listed}
-use Rattle.sorting.specs.Layout.{view}
+use Rattle.tables.specs.Layout.{view}
 use Rattle.lookup.specs.declared.lookup.Looked.the-variants.{Refused}
 use Rattle.lookup.proofs.Within.{few-rules}
 use Rattle.lookup.proofs.Visits.{Visited, told-few, visited-none, visited-broken, visited-miss, visited-sooner, visited-later, visited-match, visited-nothing}

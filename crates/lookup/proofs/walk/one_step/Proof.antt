@@ -8,7 +8,7 @@ use native.Mathlib.Omega.{arith}
 use Rattle.ranges.specs.declared.side.Side.{Side}
 use Rattle.ranges.specs.declared.side.Side.the-variants.{Below, Above, Inside}
 use Rattle.lists.specs.Rules.{listed}
-use Rattle.sorting.specs.Layout.{view}
+use Rattle.tables.specs.Layout.{view}
 use Rattle.lookup.specs.Walk.{midOf, leaves, stepOf}
 use Rattle.lookup.proofs.Within.{order-read, from-read, to-read, cell-read}
 use Rattle.lookup.proofs.Steps.{step-beyond, step-astray, step-told}

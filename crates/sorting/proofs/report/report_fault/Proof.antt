@@ -5,7 +5,7 @@ use borrow.Author.Needs.{needs}
 use mathlib.Core.Path.{sym, _∙_}
 use Rattle.lists.proofs.Faults.{by-refused}
 use Rattle.sorting.specs.Report.{reportFault}
-use Rattle.sorting.proofs.Opening.{head-read, opened-told}
+use Rattle.tables.proofs.Opened.{head-read, opened-told}
 use Rattle.sorting.proofs.Reporting.{report-by-7, report-by-part, opened-part}
 use Rattle.sorting.proofs.report.report_fault.Statement.{statement}
 use Rattle.sorting.proofs.report.report_fault.Tie as tie

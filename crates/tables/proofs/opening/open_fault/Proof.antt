@@ -1,4 +1,4 @@
--- `sorting::layout::open_fault` meets its contract: at each way out the tests that led there give the law of that refusal.
+-- `tables::opening::open_fault` meets its contract: at each way out the tests that led there give the law of that refusal.
 -- Assumes nothing.
 use borrow.Author.Needs.{needs}
 use mathlib.Core.Path.{sym, _∙_}
@@ -6,10 +6,10 @@ use borrow.Author.Tests.{not-true, not-false}
 use native.Mathlib.Omega.{arith}
 use Rattle.lists.specs.Rules.{listed}
 use Rattle.lists.proofs.Faults.{by-refused, by-shaped}
-use Rattle.sorting.specs.Opening.{openFault}
-use Rattle.sorting.proofs.Opening.{open-by-length, open-by-broken, open-by-stands}
-use Rattle.sorting.proofs.layout.open_fault.Statement.{statement}
-use Rattle.sorting.proofs.layout.open_fault.Tie as tie
+use Rattle.tables.specs.Opening.{openFault}
+use Rattle.tables.proofs.Opened.{open-by-length, open-by-broken, open-by-stands}
+use Rattle.tables.proofs.opening.open_fault.Statement.{statement}
+use Rattle.tables.proofs.opening.open_fault.Tie as tie
 
 shape-fault-requires : tie.Need-shape-fault-requires
 shape-fault-requires c κs = search needs

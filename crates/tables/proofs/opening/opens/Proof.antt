@@ -1,11 +1,11 @@
--- `sorting::layout::opens` meets its contract: at each way out the tests that led there give the law of that test.
+-- `tables::opening::opens` meets its contract: at each way out the tests that led there give the law of that test.
 -- Assumes nothing.
 use borrow.Author.Needs.{needs}
 use mathlib.Core.Path.{sym}
 use native.Mathlib.Omega.{arith}
-use Rattle.sorting.proofs.Opening.{head-read, start-read, opening-n, opening-d, opening-b, first-wrong, last-read}
-use Rattle.sorting.proofs.layout.opens.Statement.{statement}
-use Rattle.sorting.proofs.layout.opens.Tie as tie
+use Rattle.tables.proofs.Opened.{head-read, start-read, opening-n, opening-d, opening-b, first-wrong, last-read}
+use Rattle.tables.proofs.opening.opens.Statement.{statement}
+use Rattle.tables.proofs.opening.opens.Tie as tie
 
 shared-slice-read-if1 : tie.Need-shared-slice-read-if1
 shared-slice-read-if1 c = head-read (c .before .before .pre) 0 (omega arith)

@@ -22,9 +22,9 @@ use Rattle.ranges.proofs.Numbers.{true-not-false, and-left, and-right}
 use Rattle.lists.specs.Rules.{Rules, fieldsOf, rulesIn, Shaped}
 use Rattle.lists.specs.Faults.{shapeFault}
 use Rattle.lists.proofs.Faults.{shape-few, shape-stands, shaped}
-use Rattle.sorting.specs.Layout.{View, view, TableFor, tableLength, startAt}
-use Rattle.sorting.proofs.Offsets.{opening-inside, start-inside}
-use Rattle.sorting.specs.Opening.{opening, viewOf, openFault}
+use Rattle.tables.specs.Layout.{View, view, TableFor, tableLength, startAt}
+use Rattle.tables.proofs.Offsets.{opening-inside, start-inside}
+use Rattle.tables.specs.Opening.{opening, viewOf, openFault}
 
 -- ---- what is read of a table of the right length
 module _ {n d : ℕ} {T : List ℕ} (sized : TableFor n d T) where

@@ -10,7 +10,7 @@ use mathlib.Core.Path.{_≡_}
 use native.Mathlib.Omega.{arith}
 use Rattle.lists.proofs.Rules.{row-inside}
 use lib.ListN.{length}
-use Rattle.sorting.specs.Layout.{TableFor, tableLength, orderAt, startAt, fromAt, toAt}
+use Rattle.tables.specs.Layout.{TableFor, tableLength, orderAt, startAt, fromAt, toAt}
 
 module _ (n d : ℕ) where
   -- n, d, b and the first start

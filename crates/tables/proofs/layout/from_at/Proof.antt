@@ -1,12 +1,12 @@
--- `sorting::layout::from_at` meets its contract: of numbers of 16 bits, the product stays far below a word.
+-- `tables::layout::from_at` meets its contract: of numbers of 16 bits, the product stays far below a word.
 -- Assumes nothing.
 use borrow.Author.Needs.{needs}
 use mathlib.Core.Path.{refl}
 use native.Mathlib.Omega.{arith}
 use Rattle.lists.proofs.Rules.{square-few}
-use Rattle.sorting.specs.Layout.{fromAt}
-use Rattle.sorting.proofs.layout.from_at.Statement.{statement}
-use Rattle.sorting.proofs.layout.from_at.Tie as tie
+use Rattle.tables.specs.Layout.{fromAt}
+use Rattle.tables.proofs.layout.from_at.Statement.{statement}
+use Rattle.tables.proofs.layout.from_at.Tie as tie
 
 mul-result : tie.Need-mul-result
 mul-result c = search needs

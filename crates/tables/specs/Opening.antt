@@ -12,7 +12,7 @@ use Rattle.ranges.specs.Refusals.{none, refused, orElse, BadTableLength, Broken
 use Rattle.ranges.specs.declared.refusal.Refusal.{Refusal}
 use Rattle.lists.specs.Rules.{Rules, fieldsOf, rulesIn}
 use Rattle.lists.specs.Faults.{shapeFault}
-use Rattle.sorting.specs.Layout.{View, view, tableLength}
+use Rattle.tables.specs.Layout.{View, view, tableLength}
 
 -- the first two numbers are n and d, b is at most n, the first start is 0, and start number b is n
 unfoldable pub opening : ℕ → ℕ → View → Bool

@@ -1,5 +1,9 @@
-// The working table's layout: where each of its parts stands, and the refusals of a table that does not open.
-// No other file knows an offset.
+// Whether a table opens, and the refusals of one that does not.
+use crate::layout::FIELDS_AT;
+use crate::layout::PARTS_AT;
+use crate::layout::RULES_AT;
+use crate::layout::start_at;
+use crate::layout::table_length;
 use lists::shape::Shape;
 use lists::shape::rules_in;
 use lists::shape::shape_fault;
@@ -9,50 +13,8 @@ use ranges::refusal::Refusal;
 use ranges::refusal::refuse;
 ghost use mathlib.Core.Path.{_≡_};
 ghost use Rattle.lists.specs.Rules.{listed};
-ghost use Rattle.sorting.specs.Layout.{tableLength, orderAt, startAt, fromAt, toAt, view, TableFor};
-ghost use Rattle.sorting.specs.Opening.{opening, openFault};
-
-// Where n, d and b stand.
-pub const RULES_AT: usize = 0;
-
-pub const FIELDS_AT: usize = 1;
-
-pub const PARTS_AT: usize = 2;
-
-// Gives the length of a table of n rules of d fields.
-pub fn table_length(n: u16, d: u16) -> usize
-    ensures { λ r. ⌜ r ≡ tableLength n d ⌝ }
-{
-    4 + n as usize * 2 + n as usize * d as usize * 2
-}
-
-// Says where the rule number at place p stands.
-pub fn order_at(p: u16) -> usize
-    ensures { λ r. ⌜ r ≡ orderAt p ⌝ }
-{
-    3 + p as usize
-}
-
-// Says where the first place of partition q stands, for n rules.
-pub fn start_at(n: u16, q: u16) -> usize
-    ensures { λ r. ⌜ r ≡ startAt n q ⌝ }
-{
-    3 + n as usize + q as usize
-}
-
-// Says where the run-from of place p and field f stands, for n rules of d fields.
-pub fn from_at(n: u16, d: u16, p: u16, f: u16) -> usize
-    ensures { λ r. ⌜ r ≡ fromAt n d p f ⌝ }
-{
-    4 + n as usize * 2 + (p as usize * d as usize + f as usize)
-}
-
-// Says where the run-to of place p and field f stands, for n rules of d fields.
-pub fn to_at(n: u16, d: u16, p: u16, f: u16) -> usize
-    ensures { λ r. ⌜ r ≡ toAt n d p f ⌝ }
-{
-    4 + n as usize * 2 + n as usize * d as usize + (p as usize * d as usize + f as usize)
-}
+ghost use Rattle.tables.specs.Layout.{view, TableFor};
+ghost use Rattle.tables.specs.Opening.{opening, openFault};
 
 // Says whether a table of the right length for n rules of d fields opens: its first two numbers are n and d, b is
 // at most n, its first start is 0, and its start number b is n.

@@ -1,12 +1,12 @@
--- `sorting::layout::table_length` meets its contract: of numbers of 16 bits, the product stays far below a word.
+-- `tables::layout::table_length` meets its contract: of numbers of 16 bits, the product stays far below a word.
 -- Assumes nothing.
 use borrow.Author.Needs.{needs}
 use mathlib.Core.Path.{refl}
 use native.Mathlib.Omega.{arith}
 use Rattle.lists.proofs.Rules.{square-few}
-use Rattle.sorting.specs.Layout.{tableLength}
-use Rattle.sorting.proofs.layout.table_length.Statement.{statement}
-use Rattle.sorting.proofs.layout.table_length.Tie as tie
+use Rattle.tables.specs.Layout.{tableLength}
+use Rattle.tables.proofs.layout.table_length.Statement.{statement}
+use Rattle.tables.proofs.layout.table_length.Tie as tie
 
 mul-result : tie.Need-mul-result
 mul-result c = search needs

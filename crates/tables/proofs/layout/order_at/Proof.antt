@@ -1,10 +1,10 @@
--- `sorting::layout::order_at` meets its contract: the sum of numbers of 16 bits fits a word.
+-- `tables::layout::order_at` meets its contract: the sum of numbers of 16 bits fits a word.
 -- Assumes nothing.
 use borrow.Author.Needs.{needs}
 use mathlib.Core.Path.{refl}
-use Rattle.sorting.specs.Layout.{orderAt}
-use Rattle.sorting.proofs.layout.order_at.Statement.{statement}
-use Rattle.sorting.proofs.layout.order_at.Tie as tie
+use Rattle.tables.specs.Layout.{orderAt}
+use Rattle.tables.proofs.layout.order_at.Statement.{statement}
+use Rattle.tables.proofs.layout.order_at.Tie as tie
 
 add-result : tie.Need-add-result
 add-result c = search needs
