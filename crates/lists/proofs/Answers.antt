@@ -1,11 +1,8 @@
 -- What the answers of a scan and of a test of order independence say tells them apart (`specs/Scan.antt`, `specs/Independence.antt`).
 --     match-said-one, pair-said-one     two answers that say the same are one
---     picked, not-picked                which way a test went, from the answer that it led to
 -- Assumes nothing.
-use mathlib.Core.Bool.{Bool, true, false}
 use mathlib.Core.List.{[], _∷_}
 use mathlib.Core.Path.{_≡_, refl, ap}
-use Rattle.ranges.specs.Numbers.{pick}
 use Rattle.ranges.specs.Refusals.{none}
 use Rattle.ranges.proofs.Numbers.{never}
 use Rattle.ranges.proofs.Answers.{said-refusal, said-answer}
@@ -37,13 +34,3 @@ pair-said-one (Both i j) (PairRefused y) same = let e = said-answer none y (0 �
 pair-said-one (PairRefused x) Independent same = let e = said-answer x none [] (1 ∷ []) same in never (cc)
 pair-said-one (PairRefused x) (Both k l) same = let e = said-answer x none [] (0 ∷ k ∷ l ∷ []) same in never (cc)
 pair-said-one (PairRefused x) (PairRefused y) same = ap PairRefused (said-refusal x y [] [] same)
-
--- ---- which way a test went, from the answer that it led to
-module _ {A : Type 0} (a b v : A) where
-  pub picked : (t : Bool) → pick t a b ≡ v → (b ≡ v → ⊥) → (t ≡ true) × (a ≡ v)
-  picked true e other = (refl, e)
-  picked false e other = absurd (other e)
-
-  pub not-picked : (t : Bool) → pick t a b ≡ v → (a ≡ v → ⊥) → (t ≡ false) × (b ≡ v)
-  not-picked true e other = absurd (other e)
-  not-picked false e other = (refl, e)

@@ -24,7 +24,7 @@ use Rattle.lists.specs.FirstMatch.{fits}
 use Rattle.lists.specs.Independence.{meetAt, meet, partners, partnerOf, hasPartner, paired, pairOf}
 use Rattle.lists.specs.declared.independence.Pair.the-variants.{Independent, Both}
 use Rattle.lists.proofs.Rules.{low-read, high-read}
-use Rattle.lists.proofs.Search.{Told, told-more, told-least, told-end}
+use Rattle.lists.proofs.Search.{Answered, answered-more, answered-least, answered-end}
 use Rattle.lists.proofs.Voids.{SoundRule}
 use Rattle.lists.proofs.Fitting.{Inside, fits-inside, inside-fits}
 
@@ -55,7 +55,7 @@ module _ (R : Rules) (i j f a b : ℕ) (is-a : a ≡ cellOf (fieldsOf R) i f) (i
 -- ---- the search for a partner of rule i: no rule below j is one, and j comes after i
 pub record Sought (R : Rules) (i j : ℕ) : Type 0 where
   pub after : i < j
-  pub told : Told (partners R i) false (rulesIn R) j
+  pub told : Answered (partners R i) false (rulesIn R) j
 
 module _ (R : Rules) (i : ℕ) where
   pub sought-none : i < rulesIn R → Sought R i (i + 1)
@@ -74,34 +74,34 @@ module _ (R : Rules) (i : ℕ) where
   after-i j r s is-r = rw (lt-ltb i j (s .after)) is-r
 
   pub sought-more : {j : ℕ} → Sought R i j → j < rulesIn R → {r : Bool} → r ≡ meet R i j → r ≡ false → Sought R i (j + 1)
-  sought-more {j} s lt {r} is-r apart = record { after = omega (arith, s .after); told = told-more (s .told) lt (after-i j r s is-r) apart }
+  sought-more {j} s lt {r} is-r apart = record { after = omega (arith, s .after); told = answered-more (s .told) lt (after-i j r s is-r) apart }
 
   pub sought-met : {j : ℕ} → Sought R i j → j < rulesIn R → {r : Bool} → r ≡ meet R i j → r ≡ true → j ≡ partnerOf R i
   unfolding partnerOf
-  sought-met {j} s lt {r} is-r met = told-least (s .told) lt (after-i j r s is-r) met
+  sought-met {j} s lt {r} is-r met = answered-least (s .told) lt (after-i j r s is-r) met
 
   pub sought-end : {j : ℕ} → Sought R i j → rulesIn R ≤ j → rulesIn R ≡ partnerOf R i
   unfolding partnerOf
-  sought-end s past = told-end (s .told) past
+  sought-end s past = answered-end (s .told) past
 
 -- what a search that ends at n says of rule i
 pub no-partner : (R : Rules) (i j : ℕ) → j ≡ partnerOf R i → rulesIn R ≤ j → hasPartner R i ≡ false
 no-partner R i j is-partner past = le-ltb (partnerOf R i) (rulesIn R) (rw is-partner at past)
 
 -- ---- the search for a pair: no rule below i has a partner
-module _ (R : Rules) (i : ℕ) (told : Told (hasPartner R) false (rulesIn R) i) where
+module _ (R : Rules) (i : ℕ) (told : Answered (hasPartner R) false (rulesIn R) i) where
   pub pair-both : (j : ℕ) → j ≡ partnerOf R i → i < rulesIn R → j < rulesIn R → Both i j ≡ pairOf R
   unfolding paired
   pair-both j is-partner lt lt-j =
       let has : hasPartner R i ≡ true = lt-ltb (partnerOf R i) (rulesIn R) (rw is-partner at lt-j) in
-      let here = told-least told lt refl has in
+      let here = answered-least told lt refl has in
       rw (← here, lt-ltb i (rulesIn R) lt, is-partner)
 
   pub pair-none : rulesIn R ≤ i → Independent ≡ pairOf R
   unfolding paired
   pair-none past =
       let n = rulesIn R in
-      let no-pair = told-end told past in
+      let no-pair = answered-end told past in
       rw (← no-pair, le-ltb n n (omega arith))
 
 -- ---- two rules meet exactly when one header fits both

@@ -15,7 +15,7 @@ use Rattle.ranges.specs.Refusals.{none, refusedAt, LowAboveHigh}
 use Rattle.ranges.proofs.Numbers.{least-under}
 use Rattle.lists.specs.Rules.{Rules, fieldsOf, rulesIn, lowOf, endsAt, isVoid, Shaped}
 use Rattle.lists.specs.Faults.{shapeFault, badRule, endsFault, listFault}
-use Rattle.lists.proofs.Search.{Told}
+use Rattle.lists.proofs.Search.{Answered}
 use Rattle.lists.proofs.Faults.{shaped, shape-of, ends-of, shape-stands}
 use Rattle.lists.proofs.Voids.{bad, SoundRule, not-bad, sound-not-bad, ends-stands}
 
@@ -37,11 +37,11 @@ module _ (R : Rules) where
           record { ends = λ i f rule in-row. not-bad R i (least-under (bad R) (rulesIn R) i (omega arith)) f in-row }
 
   -- no rule below i is bad where each is sound
-  pub told-sound : (i : ℕ) → i ≤ rulesIn R → ((k : ℕ) → k < i → SoundRule R k) → Told (bad R) false (rulesIn R) i
-  told-sound i le sound = record { within = le; below = λ k lt. sound-not-bad R k (sound k lt) }
+  pub sound-answered : (i : ℕ) → i ≤ rulesIn R → ((k : ℕ) → k < i → SoundRule R k) → Answered (bad R) false (rulesIn R) i
+  sound-answered i le sound = record { within = le; below = λ k lt. sound-not-bad R k (sound k lt) }
 
   pub sound-ends : Sound R → endsFault R ≡ none
-  sound-ends sound = sym (ends-stands R (rulesIn R) (told-sound (rulesIn R) (omega arith) (λ i rule f. sound .ends i f rule)) (omega arith))
+  sound-ends sound = sym (ends-stands R (rulesIn R) (sound-answered (rulesIn R) (omega arith) (λ i rule f. sound .ends i f rule)) (omega arith))
 
   pub list-shaped : listFault R .number ≡ 0 → Shaped R
   list-shaped z = shaped R (shape-of R z)

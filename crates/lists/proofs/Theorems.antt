@@ -26,7 +26,7 @@ use Rattle.ranges.specs.Numbers.{_and_, _or_, least}
 use Rattle.ranges.specs.Refusals.{none, stands, refusedAt, LowAboveHigh}
 use Rattle.ranges.specs.declared.refusal.Refusal.{Refusal}
 use Rattle.ranges.specs.declared.refusal.Count.the-variants.{Is, Refused as CountRefused}
-use Rattle.ranges.proofs.Numbers.{never, and-left, and-right, true-not-false, least-is, least-none, least-hit, least-under, tab-length, tab-at}
+use Rattle.ranges.proofs.Numbers.{never, picked, not-picked, and-left, and-right, true-not-false, least-is, least-none, least-hit, least-under, tab-length, tab-at}
 use Rattle.lists.specs.Rules.{Rules, Shaped, fieldsOf, rulesIn, cellOf, lowOf, endsAt, isVoid}
 use Rattle.lists.specs.Faults.{shapeFault, endsFault, listFault, badRule}
 use Rattle.lists.specs.Check.{checkOf}
@@ -37,10 +37,9 @@ use Rattle.lists.specs.declared.scan.Match.the-variants.{Rule, Nothing, 
 use Rattle.lists.specs.declared.independence.Pair.the-variants.{Independent, Both, Refused as PairRefused}
 use Rattle.lists.proofs.Faults.{shaped, shape-few}
 use Rattle.lists.proofs.Voids.{bad, bad-field, ends-4, SoundRule, not-bad}
-use Rattle.lists.proofs.Sound.{Accepted, list-accepted, accepted-none, shaped-none, told-sound}
+use Rattle.lists.proofs.Sound.{Accepted, list-accepted, accepted-none, shaped-none, sound-answered}
 use Rattle.lists.proofs.Fitting.{Inside, fits-inside, inside-fits, fits-same, first-same}
 use Rattle.lists.proofs.Meeting.{sharedHeader, max-lt, fits-meet, meet-fits, partner-meets, partner-past, paired-past}
-use Rattle.lists.proofs.Answers.{picked, not-picked}
 
 -- the answer was picked because nothing is refused
 stands-accepted : (R : Rules) → stands (listFault R) ≡ true → Accepted R
@@ -121,7 +120,7 @@ check-4-iff R i f = (λ e. to (refusal e), fro)
         let here = le-leb (endsAt R i f) (lowOf R i f) (l .void) in
         let first = least-is (isVoid R i) (fieldsOf R) f (l .field) here (λ g lt. lt-leb (endsAt R i g) (lowOf R i g) (l .fields-before g lt)) in
         let le : i ≤ rulesIn R = omega (arith, l .rule) in
-        let ends = ends-4 R i (told-sound R i le (l .rules-before)) f (sym first) (l .rule) (l .field) in
+        let ends = ends-4 R i (sound-answered R i le (l .rules-before)) f (sym first) (l .rule) (l .field) in
         rw (shaped-none R (l .shape), ← ends)
 
 -- ---- T7

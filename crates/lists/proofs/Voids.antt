@@ -19,7 +19,7 @@ use Rattle.ranges.proofs.Sides.{past-high, within-high}
 use Rattle.lists.specs.Rules.{Rules, fieldsOf, rulesIn, cellOf, lowOf, highOf, endsAt, isVoid}
 use Rattle.lists.specs.Faults.{soundRule, badRule, endsFault}
 use Rattle.lists.proofs.Rules.{low-read, high-read}
-use Rattle.lists.proofs.Search.{Told, told-least, told-end}
+use Rattle.lists.proofs.Search.{Answered, answered-least, answered-end}
 
 -- high < low, said with the first number past the range
 void-test : (low high : ℕ) → ltb high low ≡ leb (endOf high) low
@@ -58,12 +58,12 @@ bad-field R i is-bad = go (ltb (least (fieldsOf R) (isVoid R i)) (fieldsOf R)) r
     go false e = absurd (true-not-false is-bad (bad-no R i (least (fieldsOf R) (isVoid R i)) refl (ltb-false (least (fieldsOf R) (isVoid R i)) (fieldsOf R) e)))
 
 -- the rules below i have no such field
-module _ (R : Rules) (i : ℕ) (told : Told (bad R) false (rulesIn R) i) where
+module _ (R : Rules) (i : ℕ) (told : Answered (bad R) false (rulesIn R) i) where
   -- rule i has one, v
   pub ends-4 : (v : ℕ) → v ≡ least (fieldsOf R) (isVoid R i) → i < rulesIn R → v < fieldsOf R → refusedAt LowAboveHigh i v ≡ endsFault R
   unfolding endsFault badRule
   ends-4 v is-least lt field =
-      let here = told-least told lt refl (bad-yes R i v is-least field) in
+      let here = answered-least told lt refl (bad-yes R i v is-least field) in
       rw (← here, lt-ltb i (rulesIn R) lt, is-least)
 
   -- there is no rule i
@@ -71,7 +71,7 @@ module _ (R : Rules) (i : ℕ) (told : Told (bad R) false (rulesIn R) i) where
   unfolding endsFault badRule
   ends-stands past =
       let n = rulesIn R in
-      let no-bad = told-end told past in
+      let no-bad = answered-end told past in
       rw (← no-bad, le-ltb n n (omega arith))
 
 -- ---- what the refusal, or its absence, says of the ranges

@@ -2,7 +2,7 @@
 //
 // Renders 01's section 'The walk' and, of 'Refusal numbers', what is said of a lookup. The programs may cite it; it cites
 // `ranges`, `lists`, `tables` and, of `sorting`, what a table promises (`specs/Promise.antt`), and nothing of how a table is
-// made.
+// made; only the statements on built tables cite what `sorting` proves of them.
 //
 // What it answers. `lookup` gives the smallest rule number that fits a header, or none, with the number of range tests
 // made; or a refusal, 1, 2, 3, 5 or 6. It never gives 4, since it does not read the whole list.

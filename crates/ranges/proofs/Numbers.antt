@@ -1,6 +1,8 @@
 -- Laws of what a test says of the numbers below n (`specs/Numbers.antt`). A loop that tests 0, 1, .. keeps "all
 -- below j passed", "t of those below j passed" or "none below j passed", and these laws take its step and its
 -- ways out.
+--     and-left, and-right, and-both    two tests joined
+--     picked, not-picked               which way a test went, from the answer that it led to
 --     all-yes, all-at, all-no, all-some     every number below n passes; each then does; one fails; and where not all pass, one fails
 --     count-more, count-le             one number more; never more than n (`Counting.antt` has more)
 --     least-is, least-none             the least that passes; n where none does
@@ -42,6 +44,16 @@ and-both s t p q = rw (p, q)
 -- a test that is true and false at once
 pub true-not-false : {t : Bool} → t ≡ true → t ≡ false → ⊥
 true-not-false {t} p q = never (cc)
+
+-- ---- which way a test went, from the answer that it led to
+module _ {A : Type 0} (a b v : A) where
+  pub picked : (t : Bool) → pick t a b ≡ v → (b ≡ v → ⊥) → (t ≡ true) × (a ≡ v)
+  picked true e other = (refl, e)
+  picked false e other = absurd (other e)
+
+  pub not-picked : (t : Bool) → pick t a b ≡ v → (a ≡ v → ⊥) → (t ≡ false) × (b ≡ v)
+  not-picked true e other = absurd (other e)
+  not-picked false e other = (refl, e)
 
 -- below suc n: below n, or n itself
 below-suc : (k n : ℕ) → k < suc n → (P : ℕ → Type 0) → (k < n → P k) → P n → P k

@@ -7,13 +7,13 @@ use borrow.Author.Needs.{needs}
 use native.Mathlib.Omega.{arith}
 use Rattle.lists.specs.Rules.{listed, rulesIn}
 use Rattle.lists.proofs.Rules.{has-rule}
-use Rattle.lists.proofs.Search.{Told, told-none, told-more}
+use Rattle.lists.proofs.Search.{Answered, answered-none, answered-more}
 use Rattle.lists.proofs.Voids.{bad, bad-no, ends-4, ends-stands}
 use Rattle.lists.proofs.check.ends_fault.Statement.{statement}
 use Rattle.lists.proofs.check.ends_fault.Tie as tie
 
 abbrev Inv-loop : tie.InvT-loop
-Inv-loop shape list d n i₀ i = Told (bad (listed shape list)) false (rulesIn (listed shape list)) i
+Inv-loop shape list d n i₀ i = Answered (bad (listed shape list)) false (rulesIn (listed shape list)) i
 
 abbrev μ-loop : tie.MeasureT-loop
 μ-loop shape list d n i₀ i = n - i
@@ -28,7 +28,7 @@ cast-n : tie.Need-cast-n Inv-loop μ-loop
 cast-n c = omega arith
 
 loop-holds : tie.Need-loop-holds Inv-loop μ-loop
-loop-holds c = told-none _ _ _
+loop-holds c = answered-none _ _ _
 
 void-field-requires : tie.Need-void-field-requires Inv-loop μ-loop
 void-field-requires c κs = has-rule (c .before .before .before .before .before .pre) (rw (c .before .before .rules-in .ensures) at (c .loop-test .taken))
@@ -58,7 +58,7 @@ loop-again c =
     let v = c .before in
     let turn = v .before in
     let n = turn .before .before .rules-in .ensures in
-    told-more (turn .before .loop .inv) (rw n at (turn .loop-test .taken)) refl (bad-no _ _ _ (v .void-field .ensures) (c .if1 .left))
+    answered-more (turn .before .loop .inv) (rw n at (turn .loop-test .taken)) refl (bad-no _ _ _ (v .void-field .ensures) (c .if1 .left))
 
 refuse-requires : tie.Need-refuse-requires Inv-loop μ-loop
 refuse-requires c κs = search needs

@@ -5,12 +5,12 @@ use mathlib.Core.Bool.{false}
 use native.Mathlib.Omega.{arith}
 use Rattle.lists.specs.Rules.{listed, isVoid}
 use Rattle.lists.proofs.Rules.{has-cell}
-use Rattle.lists.proofs.Search.{Told, told-none, told-more, told-least, told-end}
+use Rattle.lists.proofs.Search.{Answered, answered-none, answered-more, answered-least, answered-end}
 use Rattle.lists.proofs.check.void_field.Statement.{statement}
 use Rattle.lists.proofs.check.void_field.Tie as tie
 
 abbrev Inv-loop : tie.InvT-loop
-Inv-loop shape list i d f₀ f = Told (isVoid (listed shape list) i) false (shape .d) f
+Inv-loop shape list i d f₀ f = Answered (isVoid (listed shape list) i) false (shape .d) f
 
 abbrev μ-loop : tie.MeasureT-loop
 μ-loop shape list i d f₀ f = d - f
@@ -19,14 +19,14 @@ cast-d : tie.Need-cast-d Inv-loop μ-loop
 cast-d c = omega arith
 
 loop-holds : tie.Need-loop-holds Inv-loop μ-loop
-loop-holds c = told-none _ _ _
+loop-holds c = answered-none _ _ _
 
 void-at-requires : tie.Need-void-at-requires Inv-loop μ-loop
 void-at-requires c κs = has-cell (c .before .before .before .before .pre) (c .loop-test .taken)
 
 -- the first void field
 returns : tie.Need-returns Inv-loop μ-loop
-returns c = told-least (c .before .before .before .loop .inv) (c .before .before .loop-test .taken) (c .before .void-at .ensures) (c .if1 .taken)
+returns c = answered-least (c .before .before .before .loop .inv) (c .before .before .loop-test .taken) (c .before .void-at .ensures) (c .if1 .taken)
 
 add-f : tie.Need-add-f Inv-loop μ-loop
 add-f c = omega arith
@@ -35,11 +35,11 @@ loop-less : tie.Need-loop-less Inv-loop μ-loop
 loop-less c = omega arith
 
 loop-again : tie.Need-loop-again Inv-loop μ-loop
-loop-again c = told-more (c .before .before .before .loop .inv) (c .before .before .loop-test .taken) (c .before .void-at .ensures) (c .if1 .left)
+loop-again c = answered-more (c .before .before .before .loop .inv) (c .before .before .loop-test .taken) (c .before .void-at .ensures) (c .if1 .left)
 
 -- none is
 returns-2 : tie.Need-returns-2 Inv-loop μ-loop
-returns-2 c = told-end (c .before .loop .inv) (c .loop-test .left)
+returns-2 c = answered-end (c .before .loop .inv) (c .loop-test .left)
 
 pub void-field-spec : {M : Type 1} → statement M
 void-field-spec =

@@ -8,13 +8,13 @@ use borrow.Author.Needs.{needs}
 use native.Mathlib.Omega.{arith}
 use Rattle.lists.specs.Rules.{listed, rulesIn}
 use Rattle.lists.specs.Independence.{hasPartner}
-use Rattle.lists.proofs.Search.{Told, told-none, told-more}
+use Rattle.lists.proofs.Search.{Answered, answered-none, answered-more}
 use Rattle.lists.proofs.Meeting.{no-partner, pair-both, pair-none}
 use Rattle.lists.proofs.independence.least_pair.Statement.{statement}
 use Rattle.lists.proofs.independence.least_pair.Tie as tie
 
 abbrev Inv-loop : tie.InvT-loop
-Inv-loop shape list n i₀ i = Told (hasPartner (listed shape list)) false (rulesIn (listed shape list)) i
+Inv-loop shape list n i₀ i = Answered (hasPartner (listed shape list)) false (rulesIn (listed shape list)) i
 
 abbrev μ-loop : tie.MeasureT-loop
 μ-loop shape list n i₀ i = n - i
@@ -26,7 +26,7 @@ cast-n : tie.Need-cast-n Inv-loop μ-loop
 cast-n c = omega arith
 
 loop-holds : tie.Need-loop-holds Inv-loop μ-loop
-loop-holds c = told-none _ _ _
+loop-holds c = answered-none _ _ _
 
 partner-of-requires : tie.Need-partner-of-requires Inv-loop μ-loop
 partner-of-requires c κs = (c .before .before .before .before .pre, c .before .before .rules-in .ensures, c .loop-test .taken)
@@ -54,7 +54,7 @@ loop-again : tie.Need-loop-again Inv-loop μ-loop
 loop-again c =
     let turn = c .before .before in
     let n = turn .before .before .rules-in .ensures in
-    told-more (turn .before .loop .inv) (rw n at (turn .loop-test .taken)) refl (no-partner _ _ _ (c .before .partner-of .ensures) (rw n at (c .if1 .left)))
+    answered-more (turn .before .loop .inv) (rw n at (turn .loop-test .taken)) refl (no-partner _ _ _ (c .before .partner-of .ensures) (rw n at (c .if1 .left)))
 
 -- no rule has a partner
 returns-2 : tie.Need-returns-2 Inv-loop μ-loop

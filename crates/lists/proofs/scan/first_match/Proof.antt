@@ -8,12 +8,12 @@ use native.Mathlib.Omega.{arith}
 use Rattle.lists.specs.Rules.{listed, rulesIn}
 use Rattle.lists.specs.FirstMatch.{fits, firstMatch}
 use Rattle.lists.proofs.Rules.{has-rule}
-use Rattle.lists.proofs.Search.{Told, told-none, told-more, told-least, told-end}
+use Rattle.lists.proofs.Search.{Answered, answered-none, answered-more, answered-least, answered-end}
 use Rattle.lists.proofs.scan.first_match.Statement.{statement}
 use Rattle.lists.proofs.scan.first_match.Tie as tie
 
 abbrev Inv-loop : tie.InvT-loop
-Inv-loop shape list header n i₀ i = Told (fits (listed shape list) header) false (rulesIn (listed shape list)) i
+Inv-loop shape list header n i₀ i = Answered (fits (listed shape list) header) false (rulesIn (listed shape list)) i
 
 abbrev μ-loop : tie.MeasureT-loop
 μ-loop shape list header n i₀ i = n - i
@@ -25,7 +25,7 @@ cast-n : tie.Need-cast-n Inv-loop μ-loop
 cast-n c = omega arith
 
 loop-holds : tie.Need-loop-holds Inv-loop μ-loop
-loop-holds c = told-none _ _ _
+loop-holds c = answered-none _ _ _
 
 fits-at-requires : tie.Need-fits-at-requires Inv-loop μ-loop
 fits-at-requires c κs = has-rule (c .before .before .before .before .pre) (rw (c .before .before .rules-in .ensures) at (c .loop-test .taken))
@@ -36,7 +36,7 @@ unfolding firstMatch
 returns c =
     let turn = c .before .before in
     let n = turn .before .before .rules-in .ensures in
-    told-least (turn .before .loop .inv) (rw n at (turn .loop-test .taken)) (c .before .fits-at .ensures) (c .if1 .taken)
+    answered-least (turn .before .loop .inv) (rw n at (turn .loop-test .taken)) (c .before .fits-at .ensures) (c .if1 .taken)
 
 add-i : tie.Need-add-i Inv-loop μ-loop
 add-i c = omega arith
@@ -48,14 +48,14 @@ loop-again : tie.Need-loop-again Inv-loop μ-loop
 loop-again c =
     let turn = c .before .before in
     let n = turn .before .before .rules-in .ensures in
-    told-more (turn .before .loop .inv) (rw n at (turn .loop-test .taken)) (c .before .fits-at .ensures) (c .if1 .left)
+    answered-more (turn .before .loop .inv) (rw n at (turn .loop-test .taken)) (c .before .fits-at .ensures) (c .if1 .left)
 
 -- none does
 returns-2 : tie.Need-returns-2 Inv-loop μ-loop
 unfolding firstMatch
 returns-2 c =
     let n = c .before .before .rules-in .ensures in
-    n ∙ told-end (c .before .loop .inv) (rw n at (c .loop-test .left))
+    n ∙ answered-end (c .before .loop .inv) (rw n at (c .loop-test .left))
 
 pub first-match-spec : {M : Type 1} → statement M
 first-match-spec =

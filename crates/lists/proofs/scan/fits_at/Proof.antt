@@ -7,12 +7,12 @@ use native.Mathlib.Omega.{arith}
 use Rattle.lists.specs.Rules.{listed}
 use Rattle.lists.specs.FirstMatch.{insideAt, fits}
 use Rattle.lists.proofs.Rules.{has-cell}
-use Rattle.lists.proofs.Search.{Told, told-none, told-more, told-all, told-not}
+use Rattle.lists.proofs.Search.{Answered, answered-none, answered-more, answered-all, answered-not}
 use Rattle.lists.proofs.scan.fits_at.Statement.{statement}
 use Rattle.lists.proofs.scan.fits_at.Tie as tie
 
 abbrev Inv-loop : tie.InvT-loop
-Inv-loop shape list i header d f₀ f = Told (insideAt (listed shape list) header i) true (shape .d) f
+Inv-loop shape list i header d f₀ f = Answered (insideAt (listed shape list) header i) true (shape .d) f
 
 abbrev μ-loop : tie.MeasureT-loop
 μ-loop shape list i header d f₀ f = d - f
@@ -21,7 +21,7 @@ cast-d : tie.Need-cast-d Inv-loop μ-loop
 cast-d c = omega arith
 
 loop-holds : tie.Need-loop-holds Inv-loop μ-loop
-loop-holds c = told-none _ _ _
+loop-holds c = answered-none _ _ _
 
 inside-at-requires : tie.Need-inside-at-requires Inv-loop μ-loop
 inside-at-requires c κs = has-cell (c .before .before .before .before .pre) (c .loop-test .taken)
@@ -29,7 +29,7 @@ inside-at-requires c κs = has-cell (c .before .before .before .before .pre) (c 
 -- a field that does not fit
 returns : tie.Need-returns Inv-loop μ-loop
 unfolding fits
-returns c = told-not (c .before .before .before .loop .inv) (c .before .before .loop-test .taken) (c .before .inside-at .ensures) (not-true _ (c .if1 .taken))
+returns c = answered-not (c .before .before .before .loop .inv) (c .before .before .loop-test .taken) (c .before .inside-at .ensures) (not-true _ (c .if1 .taken))
 
 add-f : tie.Need-add-f Inv-loop μ-loop
 add-f c = omega arith
@@ -38,12 +38,12 @@ loop-less : tie.Need-loop-less Inv-loop μ-loop
 loop-less c = omega arith
 
 loop-again : tie.Need-loop-again Inv-loop μ-loop
-loop-again c = told-more (c .before .before .before .loop .inv) (c .before .before .loop-test .taken) (c .before .inside-at .ensures) (not-false _ (c .if1 .left))
+loop-again c = answered-more (c .before .before .before .loop .inv) (c .before .before .loop-test .taken) (c .before .inside-at .ensures) (not-false _ (c .if1 .left))
 
 -- all fit
 returns-2 : tie.Need-returns-2 Inv-loop μ-loop
 unfolding fits
-returns-2 c = told-all (c .before .loop .inv) (c .loop-test .left)
+returns-2 c = answered-all (c .before .loop .inv) (c .loop-test .left)
 
 pub fits-at-spec : {M : Type 1} → statement M
 fits-at-spec =

@@ -1,4 +1,4 @@
--- `sorting::audit::same_numbers` meets its contract. At the loop's head the first k numbers are the same (`Told` of lists' `Search.antt`); the measure is what is left of them.
+-- `sorting::audit::same_numbers` meets its contract. At the loop's head the first k numbers are the same (`Answered` of lists' `Search.antt`); the measure is what is left of them.
 -- Assumes nothing.
 use native.Mathlib.Omega.{arith}
 use borrow.Author.Needs.{needs}
@@ -8,18 +8,18 @@ use mathlib.Core.Path.{refl}
 use lib.Dec.{eqb}
 use lib.ListN.{length, getD}
 use borrow.Author.Tests.{eq-eqb, ne-eqb}
-use Rattle.lists.proofs.Search.{Told, told-none, told-more, told-all, told-not}
+use Rattle.lists.proofs.Search.{Answered, answered-none, answered-more, answered-all, answered-not}
 use Rattle.sorting.proofs.audit.same_numbers.Statement.{statement}
 use Rattle.sorting.proofs.audit.same_numbers.Tie as tie
 
 abbrev Inv-loop : tie.InvT-loop
-Inv-loop a b k₀ k = Told (λ j. eqb (getD a j 0) (getD b j 0)) true (length a) k
+Inv-loop a b k₀ k = Answered (λ j. eqb (getD a j 0) (getD b j 0)) true (length a) k
 
 abbrev μ-loop : tie.MeasureT-loop
 μ-loop a b k₀ k = length a - k
 
 loop-holds : tie.Need-loop-holds Inv-loop μ-loop
-loop-holds c = told-none _ _ _
+loop-holds c = answered-none _ _ _
 
 mul-if1 : tie.Need-mul-if1 Inv-loop μ-loop
 mul-if1 c = search needs
@@ -37,7 +37,7 @@ shared-slice-read-if1-2 c = search needs
 returns : tie.Need-returns Inv-loop μ-loop
 returns c =
     let at-test = c .before .before .before in
-    told-not (at-test .before .loop .inv) (at-test .loop-test .taken) refl (ne-eqb _ _ (c .if1 .taken))
+    answered-not (at-test .before .loop .inv) (at-test .loop-test .taken) refl (ne-eqb _ _ (c .if1 .taken))
 
 add-k : tie.Need-add-k Inv-loop μ-loop
 add-k c = search needs
@@ -48,11 +48,11 @@ loop-less c = omega arith
 loop-again : tie.Need-loop-again Inv-loop μ-loop
 loop-again c =
     let at-test = c .before .before .before in
-    told-more (at-test .before .loop .inv) (at-test .loop-test .taken) refl (eq-eqb _ _ (c .if1 .left))
+    answered-more (at-test .before .loop .inv) (at-test .loop-test .taken) refl (eq-eqb _ _ (c .if1 .left))
 
 -- all the same
 returns-2 : tie.Need-returns-2 Inv-loop μ-loop
-returns-2 c = told-all (c .before .loop .inv) (c .loop-test .left)
+returns-2 c = answered-all (c .before .loop .inv) (c .loop-test .left)
 
 pub same-numbers-spec : {M : Type 1} → statement M
 same-numbers-spec =

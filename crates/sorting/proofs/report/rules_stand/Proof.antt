@@ -1,4 +1,4 @@
--- `sorting::report::rules_stand` meets its contract. At the loop's head the rule numbers of the first k places are below n (`Told` of lists' `Search.antt`); the measure is what is left of the places.
+-- `sorting::report::rules_stand` meets its contract. At the loop's head the rule numbers of the first k places are below n (`Answered` of lists' `Search.antt`); the measure is what is left of the places.
 -- Assumes nothing.
 use native.Mathlib.Omega.{arith}
 use borrow.Author.Needs.{needs}
@@ -7,14 +7,14 @@ use mathlib.Core.Bool.{true}
 use mathlib.Core.Path.{ap, _∙_}
 use lib.Dec.{ltb}
 use borrow.Author.Tests.{lt-ltb, le-ltb}
-use Rattle.lists.proofs.Search.{Told, told-none, told-more, told-all, told-not}
+use Rattle.lists.proofs.Search.{Answered, answered-none, answered-more, answered-all, answered-not}
 use Rattle.sorting.specs.Report.{placesIn}
 use Rattle.sorting.proofs.PartPlaces.{start-here, place-few, place-in, rules-read}
 use Rattle.sorting.proofs.report.rules_stand.Statement.{statement}
 use Rattle.sorting.proofs.report.rules_stand.Tie as tie
 
 abbrev Inv-loop : tie.InvT-loop
-Inv-loop n table q s m k₀ k = Told (λ j. ltb (placesIn n table .order (s + j)) n) true m k
+Inv-loop n table q s m k₀ k = Answered (λ j. ltb (placesIn n table .order (s + j)) n) true m k
 
 abbrev μ-loop : tie.MeasureT-loop
 μ-loop n table q s m k₀ k = m - k
@@ -26,7 +26,7 @@ part-size-requires : tie.Need-part-size-requires Inv-loop μ-loop
 part-size-requires c κs = search needs
 
 loop-holds : tie.Need-loop-holds Inv-loop μ-loop
-loop-holds c = told-none _ _ _
+loop-holds c = answered-none _ _ _
 
 add-rule-in : tie.Need-add-rule-in Inv-loop μ-loop
 add-rule-in c =
@@ -46,7 +46,7 @@ returns c =
     let at-test = told .before in
     let size = at-test .before .before in
     let n = size .before .before .before .args .n in
-    told-not (at-test .before .loop .inv) (at-test .loop-test .taken) (ap (λ x. ltb x n) (told .rule-in .ensures)) (le-ltb _ _ (c .if1 .taken))
+    answered-not (at-test .before .loop .inv) (at-test .loop-test .taken) (ap (λ x. ltb x n) (told .rule-in .ensures)) (le-ltb _ _ (c .if1 .taken))
     ∙ rules-read (size .before .before .before .pre) (size .before .start-in .ensures) (size .part-size .ensures)
 
 add-k : tie.Need-add-k Inv-loop μ-loop
@@ -60,14 +60,14 @@ loop-again c =
     let told = c .before in
     let at-test = told .before in
     let n = at-test .before .before .before .before .before .args .n in
-    told-more (at-test .before .loop .inv) (at-test .loop-test .taken) (ap (λ x. ltb x n) (told .rule-in .ensures)) (lt-ltb _ _ (c .if1 .left))
+    answered-more (at-test .before .loop .inv) (at-test .loop-test .taken) (ap (λ x. ltb x n) (told .rule-in .ensures)) (lt-ltb _ _ (c .if1 .left))
 
 -- none
 returns-2 : tie.Need-returns-2 Inv-loop μ-loop
 returns-2 c =
     let loop = c .before in
     let size = loop .before in
-    told-all (loop .loop .inv) (c .loop-test .left) ∙ rules-read (size .before .before .before .pre) (size .before .start-in .ensures) (size .part-size .ensures)
+    answered-all (loop .loop .inv) (c .loop-test .left) ∙ rules-read (size .before .before .before .pre) (size .before .start-in .ensures) (size .part-size .ensures)
 
 pub rules-stand-spec : {M : Type 1} → statement M
 rules-stand-spec =
