@@ -24,16 +24,16 @@ use Rattle.sorting.proofs.Cases.{bench, benchTable, empty, emptyTable}
 use Rattle.lookup.specs.Walk.{runStands, stepAt, arrivedOf, walkFrom}
 use Rattle.lookup.specs.Lookup.{visitOf, lookupFrom, lookupOf, saysLooked}
 
--- ---- a row
-pub record Row : Type 0 where
+-- ---- a row of the table
+pub record Case : Type 0 where
   pub mark : ℕ
   pub found : List ℕ
   pub written : List ℕ
 
-abbrev row : ℕ → List ℕ → List ℕ → Row
+abbrev row : ℕ → List ℕ → List ℕ → Case
 row b found written = record { mark = b; found = found; written = written }
 
-abbrev hold : List Row → Bool
+abbrev hold : List Case → Bool
 hold [] = true
 hold (r ∷ rs) = sameList (r .found) (r .written) and hold rs
 
@@ -53,7 +53,7 @@ abbrev asked : ℕ → ℕ → List ℕ
 asked x y = numbers (saysLooked (lookupOf bench benchTable (x ∷ y ∷ 1 ∷ 2 ∷ 3 ∷ 4 ∷ 5 ∷ 6 ∷ [])))
 
 -- ---- the cases
-pub cases : List Row
+pub cases : List Case
 cases =
     row 1 (builtTable bench) benchTable
     ∷ row 2 (asked 7 250) (rule 1 6)

@@ -49,16 +49,16 @@ module _ (w high : ℕ) (P : ℕ → List Prefix → Type 0)
 
 -- ---- the blocks follow each other
 -- how many numbers a prefix holds
-abbrev pub sizeOf : ℕ → Prefix → ℕ
-sizeOf w p = 2 ^ (w - p .length)
+abbrev pub spanOf : ℕ → Prefix → ℕ
+spanOf w p = 2 ^ (w - p .length)
 
 -- the first starts at s, each starts where the last one ended, and the last ends before e
 abbrev pub Chain : ℕ → ℕ → ℕ → List Prefix → Type 0
 Chain w s e [] = s ≡ e
-Chain w s e (p ∷ ps) = (p .value ≡ s) × Chain w (s + sizeOf w p) e ps
+Chain w s e (p ∷ ps) = (p .value ≡ s) × Chain w (s + spanOf w p) e ps
 
 -- the first prefix holds the largest block
-pub first-size : (w low high : ℕ) → low < endOf high → sizeOf w (firstOf w low high) ≡ 2 ^ blockOf w low high
+pub first-size : (w low high : ℕ) → low < endOf high → spanOf w (firstOf w low high) ≡ 2 ^ blockOf w low high
 first-size w low high within =
     let back : w - (w - blockOf w low high) ≡ blockOf w low high = omega (arith, block-narrow w low high within) in
     ap (λ k. 2 ^ k) back
@@ -77,7 +77,7 @@ prefixes-chain w low high = prefixes-ind w high (λ s ps. s ≤ endOf high → C
 -- ---- how many prefixes hold a number
 -- x lies in the prefix
 abbrev pub holds : ℕ → ℕ → Prefix → Bool
-holds w x p = leb (p .value) x and ltb x (p .value + sizeOf w p)
+holds w x p = leb (p .value) x and ltb x (p .value + spanOf w p)
 
 abbrev pub holders : ℕ → ℕ → List Prefix → ℕ
 holders w x [] = 0
@@ -89,36 +89,36 @@ module _ (w x : ℕ) where
   chain-before s e [] c lt = refl
   chain-before s e (p ∷ ps) c lt =
       let out : holds w x p ≡ false = rw (lt-leb (p .value) x (omega (arith, c .0))) in
-      rw out (omega (arith, chain-before (s + sizeOf w p) e ps (c .1) (omega arith)))
+      rw out (omega (arith, chain-before (s + spanOf w p) e ps (c .1) (omega arith)))
 
   -- a chain ends no sooner than it starts
   chain-order : (s e : ℕ) (ps : List Prefix) → Chain w s e ps → s ≤ e
   chain-order s e [] c = omega (arith, c)
-  chain-order s e (p ∷ ps) c = omega (arith, chain-order (s + sizeOf w p) e ps (c .1))
+  chain-order s e (p ∷ ps) c = omega (arith, chain-order (s + spanOf w p) e ps (c .1))
 
   -- x is at or past a prefix's end
-  past-end : (s : ℕ) (p : Prefix) → p .value ≡ s → s + sizeOf w p ≤ x → holds w x p ≡ false
-  past-end s p starts past = rw (le-leb (p .value) x (omega (arith, starts, past)), le-ltb x (p .value + sizeOf w p) (omega (arith, starts, past)))
+  past-end : (s : ℕ) (p : Prefix) → p .value ≡ s → s + spanOf w p ≤ x → holds w x p ≡ false
+  past-end s p starts past = rw (le-leb (p .value) x (omega (arith, starts, past)), le-ltb x (p .value + spanOf w p) (omega (arith, starts, past)))
 
   -- nor does one that ends before it
   pub chain-past : (s e : ℕ) (ps : List Prefix) → Chain w s e ps → e ≤ x → holders w x ps ≡ 0
   chain-past s e [] c le = refl
   chain-past s e (p ∷ ps) c le =
-      let past : s + sizeOf w p ≤ x = omega (arith, chain-order (s + sizeOf w p) e ps (c .1)) in
-      rw (past-end s p (c .0) past) (omega (arith, chain-past (s + sizeOf w p) e ps (c .1) le))
+      let past : s + spanOf w p ≤ x = omega (arith, chain-order (s + spanOf w p) e ps (c .1)) in
+      rw (past-end s p (c .0) past) (omega (arith, chain-past (s + spanOf w p) e ps (c .1) le))
 
   -- one that x lies within holds it once
   pub chain-one : (s e : ℕ) (ps : List Prefix) → Chain w s e ps → s ≤ x → x < e → holders w x ps ≡ 1
   chain-one s e [] c le lt = absurd (omega (arith, c))
-  chain-one s e (p ∷ ps) c le lt = go (ltb x (s + sizeOf w p)) refl (λ past. chain-one (s + sizeOf w p) e ps (c .1) past lt)
+  chain-one s e (p ∷ ps) c le lt = go (ltb x (s + spanOf w p)) refl (λ past. chain-one (s + spanOf w p) e ps (c .1) past lt)
     where
-      go : (t : Bool) → ltb x (s + sizeOf w p) ≡ t → (s + sizeOf w p ≤ x → holders w x ps ≡ 1) → holders w x (p ∷ ps) ≡ 1
+      go : (t : Bool) → ltb x (s + spanOf w p) ≡ t → (s + spanOf w p ≤ x → holders w x ps ≡ 1) → holders w x (p ∷ ps) ≡ 1
       go true q rest =
-          let under : x < s + sizeOf w p = ltb-true x (s + sizeOf w p) q in
-          let here : holds w x p ≡ true = rw (le-leb (p .value) x (omega (arith, c .0, le)), lt-ltb x (p .value + sizeOf w p) (omega (arith, c .0, under))) in
-          rw here (omega (arith, chain-before (s + sizeOf w p) e ps (c .1) under))
+          let under : x < s + spanOf w p = ltb-true x (s + spanOf w p) q in
+          let here : holds w x p ≡ true = rw (le-leb (p .value) x (omega (arith, c .0, le)), lt-ltb x (p .value + spanOf w p) (omega (arith, c .0, under))) in
+          rw here (omega (arith, chain-before (s + spanOf w p) e ps (c .1) under))
       go false q rest =
-          let past : s + sizeOf w p ≤ x = ltb-false x (s + sizeOf w p) q in
+          let past : s + spanOf w p ≤ x = ltb-false x (s + spanOf w p) q in
           rw (past-end s p (c .0) past) (omega (arith, rest past))
 
 -- ---- each prefix
@@ -128,7 +128,7 @@ Each P (p ∷ ps) = P p × Each P ps
 
 -- turned back, it gives its block
 abbrev pub TurnsBack : ℕ → Prefix → Type 0
-TurnsBack w p = boundsOf w (p .value) (p .length) ≡ Are (p .value) (p .value + (sizeOf w p - 1))
+TurnsBack w p = boundsOf w (p .value) (p .length) ≡ Are (p .value) (p .value + (spanOf w p - 1))
 
 pub prefixes-turn-back : (w low high : ℕ) → Ranged w low high → Each (TurnsBack w) (prefixesOf w low high)
 prefixes-turn-back w low high r = prefixes-ind w high (λ s ps. Each (TurnsBack w) ps) (λ s past. tt) more low
@@ -136,12 +136,12 @@ prefixes-turn-back w low high r = prefixes-ind w high (λ s ps. Each (TurnsBack 
     more : (s : ℕ) (ps : List Prefix) → s < endOf high → Each (TurnsBack w) ps → Each (TurnsBack w) (firstOf w s high ∷ ps)
     more s ps within rest =
         let narrow : s < 2 ^ w = omega (arith, high-within high s within, r .narrow) in
-        let aligned : s % sizeOf w (firstOf w s high) ≡ 0 = ap (λ k. s % k) (first-size w s high within) ∙ block-at w s high within .0 in
+        let aligned : s % spanOf w (firstOf w s high) ≡ 0 = ap (λ k. s % k) (first-size w s high within) ∙ block-at w s high within .0 in
         (bounds-are w s (w - blockOf w s high) (r .some-bits) (r .few-bits) (omega arith) narrow aligned, rest)
 
 -- no aligned block from its value on that stays in the range is larger
 abbrev pub Largest : ℕ → ℕ → Prefix → Type 0
-Largest w high p = (t : ℕ) → t ≤ w → blockFits (p .value) high t ≡ true → 2 ^ t ≤ sizeOf w p
+Largest w high p = (t : ℕ) → t ≤ w → blockFits (p .value) high t ≡ true → 2 ^ t ≤ spanOf w p
 
 pub prefixes-largest : (w low high : ℕ) → Each (Largest w high) (prefixesOf w low high)
 prefixes-largest w low high = prefixes-ind w high (λ s ps. Each (Largest w high) ps) (λ s past. tt) more low

@@ -10,20 +10,21 @@
 --     greatest-is, greatest-holds      the greatest that passes; what it is where one passes
 --     all-same, least-same, greatest-same   two tests that answer alike below n
 --     tab-length, tab-at               the list of a function's values
+--     same-list-refl, same-list-equal  a list is the same as itself; two that are the same are equal
 -- Assumes nothing.
 use Prim.Native.Nat.{ℕ, zero, suc, _+_, _≤_, _<_}
 use mathlib.Core.Bool.{Bool, true, false}
-use mathlib.Core.List.{[], _∷_}
+use mathlib.Core.List.{List, [], _∷_}
 use mathlib.Core.Path.{_≡_, refl, sym, ap, _∙_, subst}
 use mathlib.Core.Logic.{⊎-elim}
 use native.Mathlib.Omega.{arith}
 use native.Mathlib.Nat.{eq-or-lt-of-le, le-of-suc-le-suc}
 use native.Mathlib.Numerals.{add-one}
-use borrow.Author.Tests.{lt-ltb, le-ltb, ltb-true, ltb-false}
-use lib.Dec.{ltb}
+use borrow.Author.Tests.{lt-ltb, le-ltb, ltb-true, ltb-false, eq-eqb, eqb-true}
+use lib.Dec.{ltb, eqb}
 use lib.ListN.{length, getD, length-append, List·getD-append}
 use lib.Seq.{getD-at}
-use Rattle.ranges.specs.Numbers.{pick, _and_, bit, all, count, least, greatest, tab}
+use Rattle.ranges.specs.Numbers.{pick, _and_, bit, all, count, least, greatest, tab, sameList}
 
 -- 0 is not 1: what `cc` proves where two constructors would be equal
 pub never {ℓ} : {A : Type ℓ} → _≡_ {A = ℕ} 0 1 → A
@@ -243,3 +244,17 @@ module _ (f : ℕ → ℕ) where
       (λ e. getD-at (tab n f) (f n) [] 0 k (tab-length n ∙ sym e) ∙ ap f (sym e))
       (λ l. let inside : k < length (tab n f) = rw (tab-length n) l in List·getD-append (tab n f) (f n ∷ []) 0 k inside ∙ tab-at n k l)
       (eq-or-lt-of-le (le-of-suc-le-suc lt))
+
+-- ---- the same list
+pub same-list-refl : (xs : List ℕ) → sameList xs xs ≡ true
+same-list-refl [] = refl
+same-list-refl (x ∷ xs) = and-both (eqb x x) (sameList xs xs) (eq-eqb x x refl) (same-list-refl xs)
+
+pub same-list-equal : (xs ys : List ℕ) → sameList xs ys ≡ true → xs ≡ ys
+same-list-equal [] [] e = refl
+same-list-equal [] (y ∷ ys) e = never (cc)
+same-list-equal (x ∷ xs) [] e = never (cc)
+same-list-equal (x ∷ xs) (y ∷ ys) e =
+    let head : x ≡ y = eqb-true x y (and-left (eqb x y) (sameList xs ys) e) in
+    let tail : xs ≡ ys = same-list-equal xs ys (and-right (eqb x y) (sameList xs ys) e) in
+    cc

@@ -3,7 +3,7 @@
 use borrow.Author.Needs.{needs}
 use Rattle.text.specs.Texts.{bytes}
 use Rattle.calls.specs.Names.{prefixWord}
-use Rattle.calls.proofs.Names.{same-bytes-is}
+use Rattle.calls.proofs.Names.{same-list-is}
 use Rattle.calls.proofs.word.prefix_word.Statement.{statement}
 use Rattle.calls.proofs.word.prefix_word.Tie as tie
 
@@ -17,7 +17,7 @@ returns : tie.Need-returns
 unfolding prefixWord
 returns c =
     let name = c .before .before .before .before .args .name .now in
-    rw (same-bytes-is name (bytes "p2r") (c .before .same .ensures) (c .if1 .taken))
+    rw (same-list-is name (bytes "p2r") (c .before .same .ensures) (c .if1 .taken))
 
 slice-aggregate-same-2 : tie.Need-slice-aggregate-same-2
 slice-aggregate-same-2 c = search needs
@@ -29,13 +29,13 @@ returns-2 : tie.Need-returns-2
 unfolding prefixWord
 returns-2 c =
     let name = c .before .before .before .before .before .before .before .args .name .now in
-    rw (same-bytes-is name (bytes "p2r") (c .before .before .before .before .same .ensures) (c .before .before .before .if1 .left), same-bytes-is name (bytes "r2p") (c .before .same2 .ensures) (c .if2 .taken))
+    rw (same-list-is name (bytes "p2r") (c .before .before .before .before .same .ensures) (c .before .before .before .if1 .left), same-list-is name (bytes "r2p") (c .before .same2 .ensures) (c .if2 .taken))
 
 returns-3 : tie.Need-returns-3
 unfolding prefixWord
 returns-3 c =
     let name = c .before .before .before .before .before .before .before .args .name .now in
-    rw (same-bytes-is name (bytes "p2r") (c .before .before .before .before .same .ensures) (c .before .before .before .if1 .left), same-bytes-is name (bytes "r2p") (c .before .same2 .ensures) (c .if2 .left))
+    rw (same-list-is name (bytes "p2r") (c .before .before .before .before .same .ensures) (c .before .before .before .if1 .left), same-list-is name (bytes "r2p") (c .before .same2 .ensures) (c .if2 .left))
 
 pub prefix-word-spec : {M : Type 1} → statement M
 prefix-word-spec =

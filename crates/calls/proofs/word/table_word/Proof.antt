@@ -3,7 +3,7 @@
 use borrow.Author.Needs.{needs}
 use Rattle.text.specs.Texts.{bytes}
 use Rattle.calls.specs.Names.{tableWord}
-use Rattle.calls.proofs.Names.{same-bytes-is}
+use Rattle.calls.proofs.Names.{same-list-is}
 use Rattle.calls.proofs.word.table_word.Statement.{statement}
 use Rattle.calls.proofs.word.table_word.Tie as tie
 
@@ -17,7 +17,7 @@ returns : tie.Need-returns
 unfolding tableWord
 returns c =
     let name = c .before .before .before .before .args .name .now in
-    rw (same-bytes-is name (bytes "build") (c .before .same .ensures) (c .if1 .taken))
+    rw (same-list-is name (bytes "build") (c .before .same .ensures) (c .if1 .taken))
 
 slice-aggregate-same-2 : tie.Need-slice-aggregate-same-2
 slice-aggregate-same-2 c = search needs
@@ -30,7 +30,7 @@ unfolding tableWord
 returns-2 c =
     let first = c .before .before .before in
     let name = first .before .before .before .before .args .name .now in
-    rw (same-bytes-is name (bytes "build") (first .before .same .ensures) (first .if1 .left), same-bytes-is name (bytes "lookup") (c .before .same2 .ensures) (c .if2 .taken))
+    rw (same-list-is name (bytes "build") (first .before .same .ensures) (first .if1 .left), same-list-is name (bytes "lookup") (c .before .same2 .ensures) (c .if2 .taken))
 
 slice-aggregate-same-3 : tie.Need-slice-aggregate-same-3
 slice-aggregate-same-3 c = search needs
@@ -44,7 +44,7 @@ returns-3 c =
     let second = c .before .before .before in
     let first = second .before .before .before in
     let name = first .before .before .before .before .args .name .now in
-    rw (same-bytes-is name (bytes "build") (first .before .same .ensures) (first .if1 .left), same-bytes-is name (bytes "lookup") (second .before .same2 .ensures) (second .if2 .left), same-bytes-is name (bytes "audit") (c .before .same3 .ensures) (c .if3 .taken))
+    rw (same-list-is name (bytes "build") (first .before .same .ensures) (first .if1 .left), same-list-is name (bytes "lookup") (second .before .same2 .ensures) (second .if2 .left), same-list-is name (bytes "audit") (c .before .same3 .ensures) (c .if3 .taken))
 
 slice-aggregate-same-4 : tie.Need-slice-aggregate-same-4
 slice-aggregate-same-4 c = search needs
@@ -59,7 +59,7 @@ returns-4 c =
     let second = third .before .before .before in
     let first = second .before .before .before in
     let name = first .before .before .before .before .args .name .now in
-    rw (same-bytes-is name (bytes "build") (first .before .same .ensures) (first .if1 .left), same-bytes-is name (bytes "lookup") (second .before .same2 .ensures) (second .if2 .left), same-bytes-is name (bytes "audit") (third .before .same3 .ensures) (third .if3 .left), same-bytes-is name (bytes "report") (c .before .same4 .ensures) (c .if4 .taken))
+    rw (same-list-is name (bytes "build") (first .before .same .ensures) (first .if1 .left), same-list-is name (bytes "lookup") (second .before .same2 .ensures) (second .if2 .left), same-list-is name (bytes "audit") (third .before .same3 .ensures) (third .if3 .left), same-list-is name (bytes "report") (c .before .same4 .ensures) (c .if4 .taken))
 
 prefix-word-requires : tie.Need-prefix-word-requires
 prefix-word-requires c κs = search needs
@@ -72,7 +72,7 @@ returns-5 c =
     let second = third .before .before .before in
     let first = second .before .before .before in
     let name = first .before .before .before .before .args .name .now in
-    rw (same-bytes-is name (bytes "build") (first .before .same .ensures) (first .if1 .left), same-bytes-is name (bytes "lookup") (second .before .same2 .ensures) (second .if2 .left), same-bytes-is name (bytes "audit") (third .before .same3 .ensures) (third .if3 .left), same-bytes-is name (bytes "report") (fourth .before .same4 .ensures) (fourth .if4 .left)) (c .prefix-word .ensures)
+    rw (same-list-is name (bytes "build") (first .before .same .ensures) (first .if1 .left), same-list-is name (bytes "lookup") (second .before .same2 .ensures) (second .if2 .left), same-list-is name (bytes "audit") (third .before .same3 .ensures) (third .if3 .left), same-list-is name (bytes "report") (fourth .before .same4 .ensures) (fourth .if4 .left)) (c .prefix-word .ensures)
 
 pub table-word-spec : {M : Type 1} → statement M
 table-word-spec =

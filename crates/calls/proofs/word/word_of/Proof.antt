@@ -3,7 +3,7 @@
 use borrow.Author.Needs.{needs}
 use Rattle.text.specs.Texts.{bytes}
 use Rattle.calls.specs.Names.{wordOf}
-use Rattle.calls.proofs.Names.{same-bytes-is}
+use Rattle.calls.proofs.Names.{same-list-is}
 use Rattle.calls.proofs.word.word_of.Statement.{statement}
 use Rattle.calls.proofs.word.word_of.Tie as tie
 
@@ -17,7 +17,7 @@ returns : tie.Need-returns
 unfolding wordOf
 returns c =
     let name = c .before .before .before .before .args .name .now in
-    rw (same-bytes-is name (bytes "check") (c .before .same .ensures) (c .if1 .taken))
+    rw (same-list-is name (bytes "check") (c .before .same .ensures) (c .if1 .taken))
 
 slice-aggregate-same-2 : tie.Need-slice-aggregate-same-2
 slice-aggregate-same-2 c = search needs
@@ -30,7 +30,7 @@ unfolding wordOf
 returns-2 c =
     let first = c .before .before .before in
     let name = first .before .before .before .before .args .name .now in
-    rw (same-bytes-is name (bytes "check") (first .before .same .ensures) (first .if1 .left), same-bytes-is name (bytes "scan") (c .before .same2 .ensures) (c .if2 .taken))
+    rw (same-list-is name (bytes "check") (first .before .same .ensures) (first .if1 .left), same-list-is name (bytes "scan") (c .before .same2 .ensures) (c .if2 .taken))
 
 slice-aggregate-same-3 : tie.Need-slice-aggregate-same-3
 slice-aggregate-same-3 c = search needs
@@ -44,7 +44,7 @@ returns-3 c =
     let second = c .before .before .before in
     let first = second .before .before .before in
     let name = first .before .before .before .before .args .name .now in
-    rw (same-bytes-is name (bytes "check") (first .before .same .ensures) (first .if1 .left), same-bytes-is name (bytes "scan") (second .before .same2 .ensures) (second .if2 .left), same-bytes-is name (bytes "independent") (c .before .same3 .ensures) (c .if3 .taken))
+    rw (same-list-is name (bytes "check") (first .before .same .ensures) (first .if1 .left), same-list-is name (bytes "scan") (second .before .same2 .ensures) (second .if2 .left), same-list-is name (bytes "independent") (c .before .same3 .ensures) (c .if3 .taken))
 
 table-word-requires : tie.Need-table-word-requires
 table-word-requires c κs = search needs
@@ -56,7 +56,7 @@ returns-4 c =
     let second = third .before .before .before in
     let first = second .before .before .before in
     let name = first .before .before .before .before .args .name .now in
-    rw (same-bytes-is name (bytes "check") (first .before .same .ensures) (first .if1 .left), same-bytes-is name (bytes "scan") (second .before .same2 .ensures) (second .if2 .left), same-bytes-is name (bytes "independent") (third .before .same3 .ensures) (third .if3 .left)) (c .table-word .ensures)
+    rw (same-list-is name (bytes "check") (first .before .same .ensures) (first .if1 .left), same-list-is name (bytes "scan") (second .before .same2 .ensures) (second .if2 .left), same-list-is name (bytes "independent") (third .before .same3 .ensures) (third .if3 .left)) (c .table-word .ensures)
 
 pub word-of-spec : {M : Type 1} → statement M
 word-of-spec =
