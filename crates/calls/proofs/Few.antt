@@ -1,6 +1,6 @@
 -- Laws of bytes put from a place on, of which there are at most so many (`specs/Few.antt`).
 --     few-text, few-then, few-more     a text; bytes after bytes; at most as many or more
---     put-whole, few-whole             all that was put is there
+--     all-put, all-few-put             all that was put is there
 --     spaced-few                       a number of 64 bits and its blank have at most 21 bytes
 -- Assumes nothing.
 use Prim.Native.Nat.{ℕ, _+_, _^_, _≤_, _<_}
@@ -29,14 +29,14 @@ pub few-more : {m n : ℕ} {out : List ℕ} {at : ℕ} {bs after : List ℕ} {ne
 few-more le put = record { puts = put .puts; few = omega (arith, put .few) }
 
 -- where there is room for them, the run's first bytes are all that was put
-pub put-whole : {out bs after : List ℕ} {end : ℕ} → Put out 0 bs after end → length bs ≤ end → take end after ≡ bs
-put-whole {out} {bs} {after} {end} put all =
+pub all-put : {out bs after : List ℕ} {end : ℕ} → Put out 0 bs after end → length bs ≤ end → take end after ≡ bs
+all-put {out} {bs} {after} {end} put all =
     let fits : 0 + length bs ≤ length out = omega (arith, put .place) in
     let is : length bs ≡ end = omega (arith, put .place) in
     ap (take end) (put-fits put fits) ∙ take-at bs (drop (0 + length bs) out) end is
 
-pub few-whole : {most : ℕ} {out bs after : List ℕ} {end : ℕ} → PutFew most out 0 bs after end → most ≤ length out → take end after ≡ bs
-few-whole {bs = bs} {end = end} put room = put-whole (put .puts) (omega (arith, put .few, put .puts .place))
+pub all-few-put : {most : ℕ} {out bs after : List ℕ} {end : ℕ} → PutFew most out 0 bs after end → most ≤ length out → take end after ≡ bs
+all-few-put {bs = bs} {end = end} put room = all-put (put .puts) (omega (arith, put .few, put .puts .place))
 
 pub spaced-few : (n : ℕ) → n < 2 ^ 64 → length (spaced n) ≤ 21
 spaced-few n small =

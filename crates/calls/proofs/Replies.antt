@@ -24,7 +24,7 @@ use Rattle.calls.specs.Input.{saidFrom, leftFrom, lastSaid}
 use Rattle.calls.specs.Serving.{saidIn, Served}
 use Rattle.calls.specs.Replies.{Hears, Replied, roomAt, begunLine, ServedLast}
 use Rattle.calls.proofs.Lent.{rest-lent}
-use Rattle.calls.proofs.Few.{put-whole, few-whole}
+use Rattle.calls.proofs.Few.{all-put, all-few-put}
 use Rattle.calls.proofs.Lines.{line-within}
 use Rattle.calls.proofs.Input.{said-append, left-append, no-end, an-end}
 use Rattle.calls.proofs.Hears.{hears-name, hears-numbers, hears-more, hears-said, hears-anew, begun-some}
@@ -153,7 +153,7 @@ room-left-more {n = n} {at = at} none-lost is = record { none-lost = none-lost; 
 -- all that was said is there
 pub replied-whole : {s : Heard} {bytes out : List ℕ} {t : Heard} {after : List ℕ} {end : ℕ} → Replied s bytes out 0 t after end → NoneLost s bytes end
     → (soFar : List ℕ) → Hears s soFar → take end after ≡ saidFrom soFar bytes
-replied-whole replied none-lost soFar h = put-whole (replied .said soFar h) (none-lost soFar h)
+replied-whole replied none-lost soFar h = all-put (replied .said soFar h) (none-lost soFar h)
 
 -- ---- the input's end
 -- nothing has come of the last line
@@ -169,7 +169,7 @@ pub last-some : {s : Heard} {out after : List ℕ} {end : ℕ} → begunLine (s 
 last-some {s} {out} {after} {end} begun put =
     record {
       said = λ soFar h. rw (all soFar h) (put .puts);
-      whole = λ enough soFar h. few-whole put enough ∙ sym (all soFar h);
+      whole = λ enough soFar h. all-few-put put enough ∙ sym (all soFar h);
     }
   where
     all : (soFar : List ℕ) → Hears s soFar → lastSaid soFar ≡ answerSaid s ++ (10 ∷ [])
