@@ -20,7 +20,7 @@ use Rattle.text.specs.Puts.{Put, placeAfter}
 use Rattle.text.specs.Rows.{fresh, inFront, cellsIn, allNumbers, valuesOf, manyMore, Reading, begin, ended, within, readByte, readCells}
 use Rattle.text.proofs.Puts.{put-then}
 use Rattle.text.proofs.Rows.{row-is}
-use Rattle.text.proofs.Counted.{cells-good, cells-count, cells-run, cells-long, many-few, many-large}
+use Rattle.text.proofs.Counted.{cells-good, cells-count, cells-run, cells-long, many-few, many-large, values-length}
 use Rattle.calls.specs.Lines.{Heard, heard, lineOf, numberEnds, numberTakes, nameEnds, nameTakes, heardByte}
 use Rattle.calls.specs.Names.{wordOf}
 use Rattle.calls.specs.Words.{badSaid}
@@ -104,11 +104,6 @@ name-heard (b ∷ l) k name numbers = go (eqb b 32) (name-heard l)
     go true follow = numbers-said l k name numbers ∙ name-ended k name numbers (cellsIn 32 l) (cells-some 32 l)
     go false follow = follow (placeAfter (length name) k 1) (set name k b) numbers ∙ name-taken k b name numbers (cellsIn 32 l)
 
--- ---- the words
-numbers-length : (cs : List (List ℕ)) → length (valuesOf cs) ≡ length cs
-numbers-length [] = refl
-numbers-length (c ∷ cs) = ap suc (numbers-length cs)
-
 -- the front of a run, where so many values were put
 front-put : (run vs : List ℕ) (k : ℕ) → length vs ≡ k → k ≤ length run → take k (sets run 0 vs) ≡ vs
 front-put run vs k is fits = ap (take k) (sets-eq vs run 0 (omega arith)) ∙ take-at vs (drop (0 + length vs) run) k is
@@ -174,7 +169,7 @@ module _ (name numbers : List ℕ) (long : length name ≡ 16) (many : length nu
           let over = leb-false (length cs) 35100 q in
           let good = cells-good 0 (begin numbers) cs ∙ p in
           let past : length (come cs .run) < come cs .row .cells = omega (arith, come-long cs, come-over cs over) in
-          let past' : 35100 < length (valuesOf cs) = omega (arith, numbers-length cs) in
+          let past' : 35100 < length (valuesOf cs) = omega (arith, values-length cs) in
           crowded k (sets name 0 w) (come cs .row) (come cs .run) good past ∙ sym (call-over (wordOf w) (valuesOf cs) past')
       go true true p q =
           let few = leb-true (length cs) 35100 q in
@@ -183,7 +178,7 @@ module _ (name numbers : List ℕ) (long : length name ≡ 16) (many : length nu
           let fits : come cs .row .cells ≤ length (come cs .run) = omega (arith, come-long cs) in
           let within : k ≤ length (sets name 0 w) = omega (arith, length-sets name 0 w) in
           let run : come cs .run ≡ sets numbers 0 (valuesOf cs) = cells-run cs 0 (begin numbers) p (omega arith) in
-          let front : take (length cs) (sets numbers 0 (valuesOf cs)) ≡ valuesOf cs = front-put numbers (valuesOf cs) (length cs) (numbers-length cs) (omega arith) in
+          let front : take (length cs) (sets numbers 0 (valuesOf cs)) ≡ valuesOf cs = front-put numbers (valuesOf cs) (length cs) (values-length cs) (omega arith) in
           called k (sets name 0 w) (come cs .row) (come cs .run) good fits within
           ∙ ap (λ v. wordSaid v (take (come cs .row .cells) (come cs .run))) (name-asks w)
           ∙ ap (λ j. wordSaid (wordOf w) (take j (come cs .run))) count

@@ -13,7 +13,6 @@
 -- Serving: laws of serving bytes up to a line's end.
 -- Hears: laws of what has come of a line.
 -- Replies: laws of serving line by line, said of the input's bytes.
--- Cases: worked cases.
 pub mod Lent
 pub mod Few
 pub mod Said
@@ -29,4 +28,3 @@ pub mod Theorems
 pub mod Serving
 pub mod Hears
 pub mod Replies
-pub mod Cases

@@ -10,7 +10,6 @@
 -- HeadersRead: what the headers file prints.
 -- Serving: laws of what the functions that call the system leave.
 -- Theorems: the headline statements.
--- Cases: what is printed for the bench list and for more files.
 pub mod Files
 pub mod RuleSteps
 pub mod RuleLine
@@ -23,4 +22,3 @@ pub mod Printing
 pub mod HeadersRead
 pub mod Serving
 pub mod Theorems
-pub mod Cases
