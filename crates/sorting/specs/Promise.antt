@@ -1,6 +1,6 @@
 -- What a table promises to whoever looks a header up in it. The lookup layer relies on this and on nothing else of
 -- how a table is made (01, The intended build: "relies only on what the sorting layer promises").
--- `Partitioned` says how the places are dealt out, `Run` what a run is; `Promise` puts them together.
+-- `InPart` says which places a partition has, `Run` what a run is; `Promise` puts them together.
 -- Assumes nothing: these are definitions.
 use Prim.Native.Nat.{ℕ, suc, _≤_, _<_}
 use mathlib.Core.Bool.{true}
