@@ -9,7 +9,7 @@ use Rattle.ranges.specs.declared.side.Side.{Side}
 use Rattle.ranges.specs.declared.side.Side.the-variants.{Below, Above, Inside}
 use Rattle.lists.specs.Rules.{listed}
 use Rattle.tables.specs.Layout.{view}
-use Rattle.lookup.specs.Walk.{midOf, leaves, stepOf}
+use Rattle.lookup.specs.Walk.{leaves, stepOf}
 use Rattle.lookup.proofs.Within.{order-read, from-read, to-read, cell-read}
 use Rattle.lookup.proofs.Steps.{step-beyond, step-astray, step-told}
 use Rattle.lookup.proofs.walk.one_step.Statement.{statement}
@@ -27,7 +27,7 @@ add-mid c = search needs
 rule-at-requires : tie.Need-rule-at-requires
 rule-at-requires c κs =
     let st = c .before .before .before in
-    order-read (st .pre .0) (midOf (st .args .s) (st .args .e)) (omega arith)
+    order-read (st .pre .0) _ (omega arith)
 
 -- no such rule
 returns : tie.Need-returns
@@ -38,12 +38,12 @@ returns c =
 run-from-requires : tie.Need-run-from-requires
 run-from-requires c κs =
     let st = c .before .before .before .before .before in
-    from-read (st .pre .0) (midOf (st .args .s) (st .args .e)) (st .args .f) (omega arith) (st .pre .1 .in-row)
+    from-read (st .pre .0) _ (st .args .f) (omega arith) (st .pre .1 .in-row)
 
 run-to-requires : tie.Need-run-to-requires
 run-to-requires c κs =
     let st = c .before .before .before .before .before .before in
-    to-read (st .pre .0) (midOf (st .args .s) (st .args .e)) (st .args .f) (omega arith) (st .pre .1 .in-row)
+    to-read (st .pre .0) _ (st .args .f) (omega arith) (st .pre .1 .in-row)
 
 run-stands-requires : tie.Need-run-stands-requires
 run-stands-requires c κs = search needs
