@@ -1,34 +1,34 @@
 -- Laws of what fits a header (`specs/FirstMatch.antt`, `specs/Scan.antt`): a field, a rule, and which rule is the first.
---     inside-read          the code's range test of one field
+--     side-read, inside-read                the code's range test of one field
 --     match-rule, match-none                the first match, or none, from the rule at which the search for it ends
 --     in-1, in-1-many, in-none, in-rule     whether a rule of the list fits, from the tests that lead there
 --     fits-inside, inside-fits              what it means that a rule fits, either way round
 --     fits-same, first-same                 only the first d numbers of a header are read
 -- Assumes nothing.
-use Prim.Native.Nat.{ℕ, _+_, _≤_, _<_}
+use Prim.Native.Nat.{ℕ, _≤_, _<_}
 use mathlib.Core.Bool.{Bool, true, false}
 use mathlib.Core.List.{List}
 use mathlib.Core.Path.{_≡_, sym, ap, _∙_}
 use lib.ListN.{length, getD}
 use borrow.Author.Tests.{lt-ltb, le-ltb}
 use Rattle.ranges.specs.Sides.{sideOf, isInside}
+use Rattle.ranges.specs.declared.side.Range.{Range}
 use Rattle.ranges.specs.declared.side.Side.{Side}
 use Rattle.ranges.proofs.Numbers.{all-yes, all-at, all-same, least-same}
 use Rattle.ranges.proofs.Sides.{inside-yes, inside-at}
-use Rattle.lists.specs.Rules.{Rules, fieldsOf, rulesIn, cellOf, lowOf, highOf, endsAt}
+use Rattle.lists.specs.Rules.{Rules, fieldsOf, rulesIn, cellOf, lowOf, endsAt, rangeAt}
 use Rattle.lists.specs.FirstMatch.{sideAt, insideAt, fits, firstMatch}
 use Rattle.lists.specs.Scan.{fitsIn, matchOf}
 use Rattle.lists.specs.declared.scan.Match.the-variants.{Rule, Nothing}
-use Rattle.lists.proofs.Rules.{low-read, high-read, rule-within, rule-past}
+use Rattle.lists.proofs.Rules.{rule-within, rule-past}
 
--- the outcome of the test, where a callee said where the rule's low stands
-module _ (R : Rules) (h : List ℕ) (i f at : ℕ) (is-cell : at ≡ cellOf (fieldsOf R) i f) where
-  side-read : sideOf (getD (R .numbers) at 0) (getD (R .numbers) (at + 1) 0) (getD h f 0) ≡ sideAt R h i f
-  side-read = rw (low-read R i f at is-cell, high-read R i f at is-cell)
+-- the outcome of the test against a range, where a callee said that it is the rule's
+module _ (R : Rules) (h : List ℕ) (i f : ℕ) (g : Range) (is-range : g ≡ rangeAt R i f) where
+  pub side-read : (s : Side) → s ≡ sideOf (g .low) (g .past) (getD h f 0) → s ≡ sideAt R h i f
+  side-read s is-side = is-side ∙ ap (λ k. sideOf (k .low) (k .past) (getD h f 0)) is-range
 
-  pub inside-read : (s t : Side) → s ≡ sideOf (getD (R .numbers) at 0) (getD (R .numbers) (at + 1) 0) (getD h f 0) → s ≡ t
-      → isInside t ≡ insideAt R h i f
-  inside-read s t is-side is-t = ap isInside (sym is-t ∙ is-side ∙ side-read)
+  pub inside-read : (s t : Side) → s ≡ sideOf (g .low) (g .past) (getD h f 0) → s ≡ t → isInside t ≡ insideAt R h i f
+  inside-read s t is-side is-t = ap isInside (sym is-t ∙ side-read s is-side)
 
 -- ---- the first match as the code works it out: i, of m rules
 module _ (R : Rules) (h : List ℕ) (i m : ℕ) (is-first : i ≡ firstMatch R h) (is-n : m ≡ rulesIn R) where
@@ -67,19 +67,19 @@ Inside R h i f = (lowOf R i f ≤ getD h f 0) × (getD h f 0 < endsAt R i f)
 module _ (R : Rules) (h : List ℕ) (i : ℕ) where
   pub fits-inside : fits R h i ≡ true → (f : ℕ) → f < fieldsOf R → Inside R h i f
   unfolding fits
-  fits-inside e f lt = inside-at (lowOf R i f) (highOf R i f) (getD h f 0) (all-at (insideAt R h i) (fieldsOf R) e f lt)
+  fits-inside e f lt = inside-at (lowOf R i f) (endsAt R i f) (getD h f 0) (all-at (insideAt R h i) (fieldsOf R) e f lt)
 
   pub inside-fits : ((f : ℕ) → f < fieldsOf R → Inside R h i f) → fits R h i ≡ true
   unfolding fits
   inside-fits at =
-      all-yes (insideAt R h i) (fieldsOf R) (λ f lt. inside-yes (lowOf R i f) (highOf R i f) (getD h f 0) (at f lt .0) (at f lt .1))
+      all-yes (insideAt R h i) (fieldsOf R) (λ f lt. inside-yes (lowOf R i f) (endsAt R i f) (getD h f 0) (at f lt .0) (at f lt .1))
 
 -- ---- only the first d numbers of a header are read
 module _ (R : Rules) (h g : List ℕ) (agree : (f : ℕ) → f < fieldsOf R → getD h f 0 ≡ getD g f 0) where
   pub fits-same : (i : ℕ) → fits R h i ≡ fits R g i
   unfolding fits
   fits-same i =
-      all-same (insideAt R h i) (insideAt R g i) (fieldsOf R) (λ f lt. ap (λ x. isInside (sideOf (lowOf R i f) (highOf R i f) x)) (agree f lt))
+      all-same (insideAt R h i) (insideAt R g i) (fieldsOf R) (λ f lt. ap (λ x. isInside (sideOf (lowOf R i f) (endsAt R i f) x)) (agree f lt))
 
   pub first-same : firstMatch R h ≡ firstMatch R g
   unfolding firstMatch

@@ -1,5 +1,5 @@
 -- Laws of rules that meet (`specs/Independence.antt`): in a field, in every field, and which pair is the least.
---     apart-read, meet-read         the code's tests of one field
+--     meet-read                     the code's test of one field
 --     sought-none, sought-more      the search for a rule's partner: where it begins, and after a turn
 --     sought-met, sought-end        its ways out; `no-partner` says what the last means for the rule
 --     pair-both, pair-none          the ways out of the search for a pair
@@ -9,48 +9,28 @@
 use Prim.Native.Nat.{ℕ, zero, suc, max, _+_, _≤_, _<_, suc-le-suc}
 use mathlib.Core.Bool.{Bool, true, false}
 use mathlib.Core.List.{List}
-use mathlib.Core.Path.{_≡_, refl, sym}
+use mathlib.Core.Path.{_≡_, refl, _∙_}
 use native.Mathlib.Omega.{arith}
 use lib.ListN.{getD}
-use lib.Dec.{ltb, leb}
+use lib.Dec.{ltb}
 use native.Mathlib.Nat.{le-max-left, le-max-right, max-le, le-of-suc-le-suc}
-use borrow.Author.Tests.{lt-ltb, le-ltb, ltb-true, ltb-false, leb-true, leb-false}
+use borrow.Author.Tests.{lt-ltb, le-ltb, ltb-true, ltb-false}
 use Rattle.ranges.specs.Numbers.{least, tab}
-use Rattle.ranges.specs.Sides.{endOf}
+use Rattle.ranges.specs.Sides.{meetOf}
+use Rattle.ranges.specs.declared.side.Range.{Range}
 use Rattle.ranges.proofs.Numbers.{and-left, and-right, and-both, all-yes, all-at, least-hit, least-under, tab-at}
-use Rattle.ranges.proofs.Sides.{past-high, within-high}
-use Rattle.lists.specs.Rules.{Rules, fieldsOf, rulesIn, cellOf, lowOf, highOf, endsAt}
+use Rattle.lists.specs.Rules.{Rules, fieldsOf, rulesIn, lowOf, endsAt, rangeAt}
 use Rattle.lists.specs.FirstMatch.{fits}
 use Rattle.lists.specs.Independence.{meetAt, meet, partners, partnerOf, hasPartner, paired, pairOf}
 use Rattle.lists.specs.declared.independence.Pair.the-variants.{Independent, Both}
-use Rattle.lists.proofs.Rules.{low-read, high-read}
 use Rattle.lists.proofs.Search.{Answered, answered-more, answered-least, answered-end}
 use Rattle.lists.proofs.Voids.{SoundRule}
 use Rattle.lists.proofs.Fitting.{Inside, fits-inside, inside-fits}
 
--- x ≤ high, said with the first number past the range
-within-test : (high x : ℕ) → leb x high ≡ ltb x (endOf high)
-within-test high x = go (leb x high) refl
-  where
-    go : (t : Bool) → leb x high ≡ t → t ≡ ltb x (endOf high)
-    go true e = sym (lt-ltb x (endOf high) (within-high high x (leb-true x high e)))
-    go false e = sym (le-ltb x (endOf high) (past-high high x (leb-false x high e)))
-
--- the tests of field f, where a callee said that the lows of rules i and j stand at a and b
-module _ (R : Rules) (i j f a b : ℕ) (is-a : a ≡ cellOf (fieldsOf R) i f) (is-b : b ≡ cellOf (fieldsOf R) j f) where
-  -- j's high is under i's low
-  pub apart-read : getD (R .numbers) (b + 1) 0 < getD (R .numbers) a 0 → false ≡ meetAt R i j f
-  apart-read lt =
-      let past = past-high (highOf R j f) (lowOf R i f) (rw (high-read R j f b is-b, low-read R i f a is-a) at lt) in
-      rw (le-ltb (lowOf R i f) (endsAt R j f) past)
-
-  -- it is not, so the other test decides
-  pub meet-read : getD (R .numbers) a 0 ≤ getD (R .numbers) (b + 1) 0
-      → leb (getD (R .numbers) b 0) (getD (R .numbers) (a + 1) 0) ≡ meetAt R i j f
-  meet-read le =
-      let before = within-high (highOf R j f) (lowOf R i f) (rw (high-read R j f b is-b, low-read R i f a is-a) at le) in
-      rw (lt-ltb (lowOf R i f) (endsAt R j f) before, low-read R j f b is-b, high-read R i f a is-a)
-      (within-test (highOf R i f) (lowOf R j f))
+-- the code's test of one field, where callees said that the ranges are those of rules i and j
+pub meet-read : (R : Rules) (i j f : ℕ) (g k : Range) → g ≡ rangeAt R i f → k ≡ rangeAt R j f → (t : Bool)
+    → t ≡ meetOf (g .low) (g .past) (k .low) (k .past) → t ≡ meetAt R i j f
+meet-read R i j f g k is-g is-k t is-t = is-t ∙ rw (is-g, is-k)
 
 -- ---- the search for a partner of rule i: no rule below j is one, and j comes after i
 pub record Sought (R : Rules) (i j : ℕ) : Type 0 where

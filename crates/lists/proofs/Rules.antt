@@ -5,7 +5,7 @@
 --     cell-inside      of such a list, the low and the high of each field of each rule stand in it
 --     has-rule, has-cell            the same, as the records that the contracts of the leaves ask for
 --     rule-within, rule-past        which rules a list has, by where a rule's last field ends
---     low-read, high-read           what is read where a callee said that a rule's low stands
+--     range-read                    the range made of what is read where a callee said that a rule's low stands
 --     square-few       a product of two numbers of 16 bits is far below a word
 -- Assumes nothing.
 use Prim.Native.Nat.{ℕ, suc, _+_, _*_, _/_, _%_, _^_, _≤_, _<_}
@@ -13,7 +13,8 @@ use mathlib.Core.Path.{_≡_, sym, ap, _∙_}
 use native.Mathlib.Omega.{arith}
 use native.Mathlib.Nat.{mul-le-mul, mul-le-mul-right, div-add-mod', div-mul-le-self, div-div-eq-div-mul, div-zero, mul-assoc, mul-comm, mul-mod-left, le-div-iff-mul-le, div-lt-iff-lt-mul, le-of-suc-le-suc}
 use lib.ListN.{length, getD}
-use Rattle.lists.specs.Rules.{Rules, fieldsOf, rulesIn, cellOf, lowOf, highOf, HasRule, HasCell}
+use Rattle.ranges.specs.Sides.{closedAt}
+use Rattle.lists.specs.Rules.{Rules, fieldsOf, rulesIn, cellOf, lowOf, highOf, endsAt, rangeAt, HasRule, HasCell}
 pub use Rattle.lists.specs.Rules.{Shaped}
 
 -- a length that is a multiple of 2d is n * d * 2
@@ -84,13 +85,9 @@ module _ (R : Rules) (i at : ℕ) (some : 1 ≤ fieldsOf R) (is-cell : at ≡ ce
 
 -- what is read where a callee said that the low of field f of rule i stands, and one further
 module _ (R : Rules) (i f at : ℕ) (is-cell : at ≡ cellOf (fieldsOf R) i f) where
-  pub low-read : getD (R .numbers) at 0 ≡ lowOf R i f
-  unfolding lowOf
-  low-read = rw is-cell
-
-  pub high-read : getD (R .numbers) (at + 1) 0 ≡ highOf R i f
-  unfolding highOf
-  high-read = rw is-cell
+  pub range-read : closedAt (getD (R .numbers) at 0) (getD (R .numbers) (at + 1) 0) ≡ rangeAt R i f
+  unfolding lowOf highOf endsAt
+  range-read = rw is-cell
 
 -- a product of two numbers of 16 bits, whatever they are
 pub square-few : (d i : ℕ) → d < 2 ^ 16 → i < 2 ^ 16 → i * d ≤ 4294836225

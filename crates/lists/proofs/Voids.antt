@@ -4,34 +4,24 @@
 --     ends-4, ends-stands  the refusal, at the rule and field where the search for it ends, and none
 --     not-bad, sound-not-bad      a rule without such a field holds a number in every range, and the other way round
 -- Assumes nothing.
-use Prim.Native.Nat.{ℕ, _+_, _≤_, _<_}
+use Prim.Native.Nat.{ℕ, _≤_, _<_}
 use mathlib.Core.Bool.{Bool, true, false, not}
-use mathlib.Core.Path.{_≡_, refl, sym, ap}
+use mathlib.Core.Path.{_≡_, refl, ap, _∙_}
 use native.Mathlib.Omega.{arith}
-use lib.ListN.{getD}
-use lib.Dec.{ltb, leb}
-use borrow.Author.Tests.{lt-ltb, le-ltb, le-leb, lt-leb, ltb-true, ltb-false, leb-false, not-true, not-false}
+use lib.Dec.{ltb}
+use borrow.Author.Tests.{lt-ltb, le-ltb, lt-leb, ltb-true, ltb-false, leb-false, not-true, not-false}
 use Rattle.ranges.specs.Numbers.{least}
-use Rattle.ranges.specs.Sides.{endOf}
+use Rattle.ranges.specs.Sides.{voidOf}
+use Rattle.ranges.specs.declared.side.Range.{Range}
 use Rattle.ranges.specs.Refusals.{none, refusedAt, LowAboveHigh}
 use Rattle.ranges.proofs.Numbers.{true-not-false, all-yes, all-at, all-no, least-hit, least-under}
-use Rattle.ranges.proofs.Sides.{past-high, within-high}
-use Rattle.lists.specs.Rules.{Rules, fieldsOf, rulesIn, cellOf, lowOf, highOf, endsAt, isVoid}
+use Rattle.lists.specs.Rules.{Rules, fieldsOf, rulesIn, lowOf, endsAt, rangeAt, isVoid}
 use Rattle.lists.specs.Faults.{soundRule, badRule, endsFault}
-use Rattle.lists.proofs.Rules.{low-read, high-read}
 use Rattle.lists.proofs.Search.{Answered, answered-least, answered-end}
 
--- high < low, said with the first number past the range
-void-test : (low high : ℕ) → ltb high low ≡ leb (endOf high) low
-void-test low high = go (ltb high low) refl
-  where
-    go : (t : Bool) → ltb high low ≡ t → t ≡ leb (endOf high) low
-    go true e = sym (le-leb (endOf high) low (past-high high low (ltb-true high low e)))
-    go false e = sym (lt-leb (endOf high) low (within-high high low (ltb-false high low e)))
-
-pub void-read : (R : Rules) (i f at : ℕ) → at ≡ cellOf (fieldsOf R) i f
-    → ltb (getD (R .numbers) (at + 1) 0) (getD (R .numbers) at 0) ≡ isVoid R i f
-void-read R i f at is-cell = rw (low-read R i f at is-cell, high-read R i f at is-cell) (void-test (lowOf R i f) (highOf R i f))
+-- the code's test of a range, where a callee said that it is the rule's
+pub void-read : (R : Rules) (i f : ℕ) (g : Range) → g ≡ rangeAt R i f → (t : Bool) → t ≡ voidOf (g .low) (g .past) → t ≡ isVoid R i f
+void-read R i f g is-range t is-t = is-t ∙ ap (λ k. voidOf (k .low) (k .past)) is-range
 
 -- low > high in some field of rule i
 abbrev pub bad : Rules → ℕ → Bool

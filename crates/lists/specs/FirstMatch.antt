@@ -9,11 +9,11 @@ use lib.ListN.{getD}
 use Rattle.ranges.specs.Numbers.{all, least}
 use Rattle.ranges.specs.Sides.{sideOf, isInside}
 use Rattle.ranges.specs.declared.side.Side.{Side}
-use Rattle.lists.specs.Rules.{Rules, fieldsOf, rulesIn, lowOf, highOf}
+use Rattle.lists.specs.Rules.{Rules, fieldsOf, rulesIn, lowOf, endsAt}
 
 -- the range test of the header's number in field f against rule i
 abbrev pub sideAt : Rules → List ℕ → ℕ → ℕ → Side
-sideAt R h i f = sideOf (lowOf R i f) (highOf R i f) (getD h f 0)
+sideAt R h i f = sideOf (lowOf R i f) (endsAt R i f) (getD h f 0)
 
 -- the header's number in field f is inside rule i's range
 abbrev pub insideAt : Rules → List ℕ → ℕ → ℕ → Bool

@@ -8,6 +8,7 @@ use mathlib.Core.Bool.{Bool}
 use mathlib.Core.List.{[], _∷_}
 use lib.Dec.{ltb}
 use Rattle.ranges.specs.Numbers.{pick, _and_, all, least}
+use Rattle.ranges.specs.Sides.{meetOf}
 use Rattle.ranges.specs.Refusals.{none, stands, Said, saidOf}
 use Rattle.lists.specs.Rules.{Rules, fieldsOf, rulesIn, lowOf, endsAt}
 use Rattle.lists.specs.Faults.{listFault}
@@ -17,7 +18,7 @@ use Rattle.lists.specs.declared.independence.Pair.the-variants.{Independ
 -- in field f, the low of each of rules i and j is before the other's end
 -- (0-9 and 9-12 meet; 0-9 and 10-12 do not)
 abbrev pub meetAt : Rules → ℕ → ℕ → ℕ → Bool
-meetAt R i j f = ltb (lowOf R i f) (endsAt R j f) and ltb (lowOf R j f) (endsAt R i f)
+meetAt R i j f = meetOf (lowOf R i f) (endsAt R i f) (lowOf R j f) (endsAt R j f)
 
 -- rules i and j meet: in every field
 unfoldable pub meet : Rules → ℕ → ℕ → Bool

@@ -8,8 +8,8 @@ use mathlib.Core.Bool.{Bool}
 use mathlib.Core.List.{List}
 use mathlib.Core.Path.{_≡_}
 use lib.ListN.{length, getD}
-use lib.Dec.{leb}
-use Rattle.ranges.specs.Sides.{endOf}
+use Rattle.ranges.specs.Sides.{endOf, voidOf}
+use Rattle.ranges.specs.declared.side.Range.{Range}
 use Rattle.lists.specs.declared.shape.Shape.{Shape}
 
 -- a list as lent, with the shape that gives its numbers their meaning
@@ -41,13 +41,17 @@ lowOf R i f = getD (R .numbers) (cellOf (fieldsOf R) i f) 0
 unfoldable pub highOf : Rules → ℕ → ℕ → ℕ
 highOf R i f = getD (R .numbers) (cellOf (fieldsOf R) i f + 1) 0
 
--- the first number past its range
-abbrev pub endsAt : Rules → ℕ → ℕ → ℕ
+-- the first number past its range; nothing else says how a rule's range ends
+unfoldable pub endsAt : Rules → ℕ → ℕ → ℕ
 endsAt R i f = endOf (highOf R i f)
+
+-- its range
+abbrev pub rangeAt : Rules → ℕ → ℕ → Range
+rangeAt R i f = record { low = lowOf R i f; past = endsAt R i f }
 
 -- the range holds no number: low > high
 abbrev pub isVoid : Rules → ℕ → ℕ → Bool
-isVoid R i f = leb (endsAt R i f) (lowOf R i f)
+isVoid R i f = voidOf (lowOf R i f) (endsAt R i f)
 
 -- a list whose shape stands: none of 1, 2, 3 applies to it
 pub record Shaped (R : Rules) : Type 0 where

@@ -1,12 +1,13 @@
 // The check of a list: the refusals 1 to 4, in their order, and n.
+use crate::range::range_at;
 use crate::shape::Shape;
-use crate::shape::cell;
 use crate::shape::rules_in;
 use crate::shape::shape_fault;
 use ranges::refusal::Count;
 use ranges::refusal::LOW_ABOVE_HIGH;
 use ranges::refusal::Refusal;
 use ranges::refusal::refuse;
+use ranges::side::is_void;
 ghost use mathlib.Core.Path.{_≡_};
 ghost use Rattle.ranges.specs.Numbers.{least};
 ghost use Rattle.lists.specs.Rules.{listed, isVoid, Shaped, HasRule, HasCell};
@@ -18,8 +19,7 @@ fn void_at(shape: Shape, list: &[u32], i: u16, f: u16) -> bool
     requires { ⌜ HasCell (listed shape (now list)) i f ⌝ }
     ensures { λ r. ⌜ r ≡ isVoid (listed shape (now (list .entry))) i f ⌝ }
 {
-    let at = cell(shape.d as u16, i, f);
-    list[at + 1] < list[at]
+    is_void(range_at(shape, list, i, f))
 }
 
 // Gives the smallest field of rule i with low > high, and d where there is none.

@@ -1,9 +1,10 @@
 // Order independence: whether some header fits two rules of a list, and which two.
 use crate::check::list_fault;
+use crate::range::range_at;
 use crate::shape::Shape;
-use crate::shape::cell;
 use crate::shape::rules_in;
 use ranges::refusal::Refusal;
+use ranges::side::meets;
 ghost use mathlib.Core.Path.{_≡_};
 ghost use Prim.Native.Nat.{_<_};
 ghost use Rattle.lists.specs.Rules.{listed, rulesIn, Shaped, HasRule, HasCell};
@@ -21,13 +22,7 @@ fn meet_at(shape: Shape, list: &[u32], i: u16, j: u16, f: u16) -> bool
     requires { ⌜ (HasCell (listed shape (now list)) i f) × (HasCell (listed shape (now list)) j f) ⌝ }
     ensures { λ r. ⌜ r ≡ meetAt (listed shape (now (list .entry))) i j f ⌝ }
 {
-    let d = shape.d as u16;
-    let a = cell(d, i, f);
-    let b = cell(d, j, f);
-    if list[b + 1] < list[a] {
-        return false;
-    }
-    list[b] <= list[a + 1]
+    meets(range_at(shape, list, i, f), range_at(shape, list, j, f))
 }
 
 // Says whether rules i and j meet; ends at the first field in which they do not.

@@ -12,5 +12,6 @@
 // `shape_fault` gives 1, 2 and 3 alone, for those who do not read the whole list).
 pub mod check;
 pub mod independence;
+mod range;
 pub mod scan;
 pub mod shape;

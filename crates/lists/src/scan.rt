@@ -1,5 +1,6 @@
 // The plain scan: the first rule that fits a header.
 use crate::check::list_fault;
+use crate::range::range_at;
 use crate::shape::Shape;
 use crate::shape::cell;
 use crate::shape::rules_in;
@@ -23,8 +24,7 @@ fn inside_at(shape: Shape, list: &[u32], i: u16, f: u16, header: &[u32; 8]) -> b
     requires { ⌜ HasCell (listed shape (now list)) i f ⌝ }
     ensures { λ r. ⌜ r ≡ insideAt (listed shape (now (list .entry))) (now (header .entry)) i f ⌝ }
 {
-    let at = cell(shape.d as u16, i, f);
-    let side = side_of(list[at], list[at + 1], header[f as usize]);
+    let side = side_of(range_at(shape, list, i, f), header[f as usize]);
     match side {
         Side::Below => false,
         Side::Above => false,

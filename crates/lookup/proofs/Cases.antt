@@ -12,7 +12,7 @@ use Rattle.ranges.specs.Refusals.{Said}
 use Rattle.ranges.specs.Sides.{endOf, sideOf}
 use Rattle.ranges.specs.Prefixes.{prefixFault, boundsOf, saysBounds}
 use Rattle.ranges.specs.Blocks.{blockFits, blockOf, prefixesFrom, prefixesOf, flat}
-use Rattle.lists.specs.Rules.{rulesIn, cellOf, lowOf, highOf}
+use Rattle.lists.specs.Rules.{rulesIn, cellOf, lowOf, highOf, endsAt}
 use Rattle.lists.specs.FirstMatch.{fits}
 use Rattle.lists.specs.Faults.{shapeFault}
 use Rattle.sorting.specs.Order.{standingOf, compare}
@@ -72,5 +72,5 @@ cases =
     ∷ []
 
 pub cases-hold : T (hold cases)
-unfolding cases all count least greatest tab endOf sideOf rulesIn cellOf lowOf highOf fits shapeFault standingOf compare fitOf firstFit parts tableLength orderAt startAt fromAt toAt placeOf ruleAt startOf runFrom runTo tableOf opening openFault runStands stepAt arrivedOf walkFrom visitOf lookupFrom lookupOf prefixesOf prefixesFrom blockOf blockFits prefixFault
+unfolding cases all count least greatest tab endOf sideOf rulesIn cellOf lowOf highOf endsAt fits shapeFault standingOf compare fitOf firstFit parts tableLength orderAt startAt fromAt toAt placeOf ruleAt startOf runFrom runTo tableOf opening openFault runStands stepAt arrivedOf walkFrom visitOf lookupFrom lookupOf prefixesOf prefixesFrom blockOf blockFits prefixFault
 cases-hold = tt

@@ -13,7 +13,7 @@ use borrow.Author.Tests.{ltb-true, ltb-false}
 use Rattle.ranges.specs.declared.side.Side.{Side}
 use Rattle.ranges.specs.declared.side.Side.the-variants.{Below, Above, Inside}
 use Rattle.ranges.proofs.Sides.{is-below, is-above, is-inside}
-use Rattle.lists.specs.Rules.{Rules, fieldsOf, rulesIn, lowOf, highOf}
+use Rattle.lists.specs.Rules.{Rules, fieldsOf, rulesIn, lowOf, endsAt}
 use Rattle.lists.specs.FirstMatch.{sideAt, fits}
 use Rattle.tables.specs.Layout.{View}
 use Rattle.sorting.specs.Promise.{InPart, Promise}
@@ -66,7 +66,7 @@ module _ {R : Rules} {v : View} (h : List ℕ) (promise : Promise R v) where
             end = v .from m f;
             field = f;
             step = by Below is;
-            rest = held-below promise held in-row from to (is-below (lowOf R (v .order m) f) (highOf R (v .order m) f) (getD h f 0) is);
+            rest = held-below promise held in-row from to (is-below (lowOf R (v .order m) f) (endsAt R (v .order m) f) (getD h f 0) is);
           }
       go Above is =
           record {
@@ -74,7 +74,7 @@ module _ {R : Rules} {v : View} (h : List ℕ) (promise : Promise R v) where
             end = e;
             field = f;
             step = by Above is;
-            rest = held-above promise held in-row from to (is-above (lowOf R (v .order m) f) (highOf R (v .order m) f) (getD h f 0) is);
+            rest = held-above promise held in-row from to (is-above (lowOf R (v .order m) f) (endsAt R (v .order m) f) (getD h f 0) is);
           }
       go Inside is =
           record {
@@ -82,7 +82,7 @@ module _ {R : Rules} {v : View} (h : List ℕ) (promise : Promise R v) where
             end = v .to m f;
             field = f + 1;
             step = by Inside is;
-            rest = held-inside promise held in-row from to (is-inside (lowOf R (v .order m) f) (highOf R (v .order m) f) (getD h f 0) is);
+            rest = held-inside promise held in-row from to (is-inside (lowOf R (v .order m) f) (endsAt R (v .order m) f) (getD h f 0) is);
           }
 
   pub walk-finds : (q k s e f t : ℕ) → (e - s) + (fieldsOf R - f) < k → f ≤ fieldsOf R → Held R v h q s e f → Finds R v h q (walkFrom R v h k s e f t)

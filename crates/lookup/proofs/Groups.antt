@@ -20,10 +20,9 @@ use native.Mathlib.Numerals.{add-one}
 use lib.ListN.{getD}
 use lib.Dec.{ltb}
 use borrow.Author.Tests.{ltb-true, ltb-false}
-use Rattle.ranges.specs.Sides.{endOf}
 use Rattle.ranges.proofs.Numbers.{all-yes, all-at}
 use Rattle.ranges.proofs.Sides.{inside-at, inside-yes}
-use Rattle.lists.specs.Rules.{Rules, fieldsOf, rulesIn, lowOf, highOf, endsAt}
+use Rattle.lists.specs.Rules.{Rules, fieldsOf, rulesIn, lowOf, endsAt}
 use Rattle.lists.specs.FirstMatch.{insideAt, fits}
 use Rattle.tables.specs.Layout.{View}
 use Rattle.sorting.specs.Order.{compare, isAlike}
@@ -146,17 +145,14 @@ module _ {R : Rules} {v : View} {h : List ℕ} (promise : Promise R v) {q s e f 
   fit-inside : (r : ℕ) → fits R h (v .order r) ≡ true → (lowOf R (v .order r) f ≤ getD h f 0) × (getD h f 0 < endsAt R (v .order r) f)
   unfolding fits
   fit-inside r fit =
-      inside-at (lowOf R (v .order r) f) (highOf R (v .order r) f) (getD h f 0) (all-at (insideAt R h (v .order r)) (fieldsOf R) fit f in-row)
+      inside-at (lowOf R (v .order r) f) (endsAt R (v .order r) f) (getD h f 0) (all-at (insideAt R h (v .order r)) (fieldsOf R) fit f in-row)
 
   -- a place of the run has the middle's range in field f
   like-low : (r : ℕ) → compare R (v .order r) (v .order m) (suc f) ≡ Alike → lowOf R (v .order r) f ≡ lowOf R (v .order m) f
   like-low r like = alike-fields R (v .order r) (v .order m) (suc f) like f (omega arith) .0
 
-  like-high : (r : ℕ) → compare R (v .order r) (v .order m) (suc f) ≡ Alike → highOf R (v .order r) f ≡ highOf R (v .order m) f
-  like-high r like = alike-fields R (v .order r) (v .order m) (suc f) like f (omega arith) .1
-
   like-ends : (r : ℕ) → compare R (v .order r) (v .order m) (suc f) ≡ Alike → endsAt R (v .order r) f ≡ endsAt R (v .order m) f
-  like-ends r like = ap endOf (like-high r like)
+  like-ends r like = alike-fields R (v .order r) (v .order m) (suc f) like f (omega arith) .1
 
   some-m : lowOf R (v .order m) f < endsAt R (v .order m) f
   some-m = promise .sound (v .order m) f (placed-rule promise q m in-m) in-row
@@ -310,7 +306,7 @@ module _ {R : Rules} {v : View} {h : List ℕ} (promise : Promise R v) {q s e f 
         go false e′ =
             let is : g ≡ f = omega (arith, ltb-false g f e′) in
             rw is
-            (inside-yes (lowOf R (v .order p) f) (highOf R (v .order p) f) (getD h f 0) (omega (arith, like-low p like, inside .0))
+            (inside-yes (lowOf R (v .order p) f) (endsAt R (v .order p) f) (getD h f 0) (omega (arith, like-low p like, inside .0))
             (omega (arith, like-ends p like, inside .1)))
 
     pub held-inside : Held R v h q (v .from m f) (v .to m f) (f + 1)

@@ -2,7 +2,7 @@
 -- and the header of zeros. The build puts its m rules into one partition, since of two rules the one with the smaller number is under
 -- the other in field 0. The header is below every place but the first, whose rule is 0: so k tests halve the group down to one
 -- place, and one test a field is inside.
---     ladder-rules, ladder-low, ladder-high, ladder-stands      the list
+--     ladder-rules, ladder-low, ladder-ends, ladder-stands      the list
 --     ladder-parts                                              its one partition
 --     ladder-reaches                                            its lookup makes d + k tests
 -- Assumes nothing.
@@ -21,8 +21,9 @@ use Rattle.ranges.specs.Sides.{isInside}
 use Rattle.ranges.specs.declared.side.Side.{Side}
 use Rattle.ranges.specs.declared.side.Side.the-variants.{Below, Inside}
 use Rattle.ranges.proofs.Numbers.{all-yes, tab-length, tab-at}
-use Rattle.ranges.proofs.Sides.{past-high, within-high, side-below, side-inside}
-use Rattle.lists.specs.Rules.{rulesIn, cellOf, lowOf, highOf}
+use Rattle.ranges.specs.Sides.{endOf}
+use Rattle.ranges.proofs.Sides.{side-below, side-inside}
+use Rattle.lists.specs.Rules.{rulesIn, cellOf, lowOf, highOf, endsAt}
 use Rattle.lists.specs.FirstMatch.{sideAt, insideAt, fits}
 use Rattle.lists.specs.Faults.{shapeFault, listFault}
 use Rattle.lists.proofs.Rules.{row-inside}
@@ -78,9 +79,9 @@ module _ (d m : ℕ) (some : 1 ≤ d) where
   unfolding lowOf cellOf
   ladder-low i f rule in-row = ladder-at i f 0 ((i * d + f) * 2) rule in-row (omega arith) (omega arith)
 
-  pub ladder-high : (i f : ℕ) → i < m → f < d → highOf (ladder d m) i f ≡ i
-  unfolding highOf cellOf
-  ladder-high i f rule in-row = ladder-at i f 1 ((i * d + f) * 2 + 1) rule in-row (omega arith) (omega arith)
+  pub ladder-ends : (i f : ℕ) → i < m → f < d → endsAt (ladder d m) i f ≡ i + 1
+  unfolding endsAt endOf highOf cellOf
+  ladder-ends i f rule in-row = ap (λ k. k + 1) (ladder-at i f 1 ((i * d + f) * 2 + 1) rule in-row (omega arith) (omega arith))
 
   pub ladder-sound : Sound (ladder d m)
   ladder-sound =
@@ -88,8 +89,8 @@ module _ (d m : ℕ) (some : 1 ≤ d) where
         ends = λ i f rule in-row.
             let is-i : i < m = omega (arith, ladder-rules) in
             let low = ladder-low i f is-i in-row in
-            let high = ladder-high i f is-i in-row in
-            within-high (highOf (ladder d m) i f) (lowOf (ladder d m) i f) (omega arith);
+            let end = ladder-ends i f is-i in-row in
+            omega arith;
       }
 
 module _ (d m : ℕ) (some : 1 ≤ d) (few : d ≤ 8) (few-rules : m ≤ 1024) where
@@ -109,14 +110,14 @@ module _ (d m : ℕ) (some : 1 ≤ d) where
   ladder-before : (i j : ℕ) → i < j → j < m → before (ladder d m) i j ≡ true
   ladder-before i j lt rule =
       let R = ladder d m in
-      let high = ladder-high d m some i 0 (omega arith) some in
+      let end = ladder-ends d m some i 0 (omega arith) some in
       let low = ladder-low d m some j 0 rule some in
       under-before R (ladder-sound d m some) i j (omega (arith, ladder-rules d m some))
       record {
         field = 0;
         inside = some;
         same = compare-none R i j;
-        under = past-high (highOf R i 0) (lowOf R j 0) (omega arith);
+        under = omega arith;
       }
 
   ladder-apart : (i j : ℕ) → i < j → j < m → clash (ladder d m) i j ≡ false
@@ -161,8 +162,8 @@ module _ (d m : ℕ) (some : 1 ≤ d) (few : d ≤ 8) (rules : 1 ≤ m) (v : Vie
   low : (p f : ℕ) → p < m → f < d → lowOf (ladder d m) (v .order p) f ≡ v .order p
   low p f lt in-row = ladder-low d m some (v .order p) f (rule p lt) in-row
 
-  high : (p f : ℕ) → p < m → f < d → highOf (ladder d m) (v .order p) f ≡ v .order p
-  high p f lt in-row = ladder-high d m some (v .order p) f (rule p lt) in-row
+  past : (p f : ℕ) → p < m → f < d → endsAt (ladder d m) (v .order p) f ≡ v .order p + 1
+  past p f lt in-row = ladder-ends d m some (v .order p) f (rule p lt) in-row
 
   -- rule 0 stands first
   first-at : (p : ℕ) → p < m → v .order p ≡ 0 → v .order 0 ≡ 0
@@ -233,10 +234,10 @@ module _ (d m : ℕ) (some : 1 ≤ d) (few : d ≤ 8) (rules : 1 ≤ m) (v : Vie
   first-inside f in-row =
       let R = ladder d m in
       let is-low = low 0 f rules in-row in
-      let is-high = high 0 f rules in-row in
-      side-inside (lowOf R (v .order 0) f) (highOf R (v .order 0) f) (getD zeros f 0)
+      let is-past = past 0 f rules in-row in
+      side-inside (lowOf R (v .order 0) f) (endsAt R (v .order 0) f) (getD zeros f 0)
       (omega (arith, order-first, zero-at f in-row))
-      (within-high (highOf R (v .order 0) f) (getD zeros f 0) (omega (arith, order-first, zero-at f in-row)))
+      (omega (arith, order-first, zero-at f in-row))
 
   first-fits : fits (ladder d m) zeros (v .order 0) ≡ true
   unfolding fits
@@ -266,7 +267,7 @@ module _ (d m : ℕ) (some : 1 ≤ d) (few : d ≤ 8) (rules : 1 ≤ m) (v : Vie
   later-below : (p : ℕ) → 0 < p → p < m → sideAt (ladder d m) zeros (v .order p) 0 ≡ Below
   later-below p pos lt =
       let R = ladder d m in
-      side-below (lowOf R (v .order p) 0) (highOf R (v .order p) 0) (getD zeros 0 0) (omega (arith, low p 0 lt some, order-later p pos lt, zero-at 0 some))
+      side-below (lowOf R (v .order p) 0) (endsAt R (v .order p) 0) (getD zeros 0 0) (omega (arith, low p 0 lt some, order-later p pos lt, zero-at 0 some))
 
   walk-ladder : (j k e t : ℕ) → PowerWithin e j → e ≤ m → e + d < k → walkFrom (ladder d m) v zeros k 0 e 0 t ≡ Ran (Hit 0) (t + d + j)
   walk-ladder zero k e t power le enough =

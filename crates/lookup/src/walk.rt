@@ -2,7 +2,9 @@
 use lists::scan::rule_fits;
 use lists::shape::Shape;
 use lists::shape::cell;
+use ranges::side::Range;
 use ranges::side::Side;
+use ranges::side::closed;
 use ranges::side::side_of;
 use tables::layout::from_at;
 use tables::layout::order_at;
@@ -10,7 +12,7 @@ use tables::layout::to_at;
 ghost use mathlib.Core.Path.{_≡_};
 ghost use Prim.Native.Nat.{ℕ, _+_, _-_, _<_, _≤_};
 ghost use lib.ListN.{length, getD};
-ghost use Rattle.lists.specs.Rules.{listed, HasCell};
+ghost use Rattle.lists.specs.Rules.{listed, HasCell, rangeAt};
 ghost use Rattle.lists.specs.FirstMatch.{sideAt};
 ghost use Rattle.tables.specs.Layout.{orderAt, fromAt, toAt, view};
 ghost use Rattle.lookup.specs.Lent.{Ready, Group, Going};
@@ -60,13 +62,21 @@ fn run_to(table: &[u16], n: u16, d: u16, p: u16, f: u16) -> u16
     table[to_at(n, d, p, f)]
 }
 
+// Gives the range of rule i in field f.
+fn range_at(shape: Shape, list: &[u32], i: u16, f: u16) -> Range
+    requires { ⌜ HasCell (listed shape (now list)) i f ⌝ }
+    ensures { λ r. ⌜ r ≡ rangeAt (listed shape (now (list .entry))) i f ⌝ }
+{
+    let at = cell(shape.d as u16, i, f);
+    closed(list[at], list[at + 1])
+}
+
 // Says on which side of rule i's range in field f the header's number lies.
 fn side_at(shape: Shape, list: &[u32], header: &[u32; 8], i: u16, f: u16) -> Side
     requires { ⌜ HasCell (listed shape (now list)) i f ⌝ }
     ensures { λ r. ⌜ r ≡ sideAt (listed shape (now (list .entry))) (now (header .entry)) i f ⌝ }
 {
-    let at = cell(shape.d as u16, i, f);
-    side_of(list[at], list[at + 1], header[f as usize])
+    side_of(range_at(shape, list, i, f), header[f as usize])
 }
 
 // Says whether a run may be trusted: group start ≤ run-from ≤ mid < run-to ≤ group end.

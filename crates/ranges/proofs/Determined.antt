@@ -9,6 +9,12 @@ use Rattle.ranges.proofs.refusal.refuse.Kinds as refuse-kinds
 use Rattle.ranges.proofs.refusal.refuse.Reads as refuse
 use Rattle.ranges.proofs.side.side_of.Kinds as side-of-kinds
 use Rattle.ranges.proofs.side.side_of.Reads as side-of
+use Rattle.ranges.proofs.side.closed.Kinds as closed-kinds
+use Rattle.ranges.proofs.side.closed.Reads as closed
+use Rattle.ranges.proofs.side.is_void.Kinds as is-void-kinds
+use Rattle.ranges.proofs.side.is_void.Reads as is-void
+use Rattle.ranges.proofs.side.meets.Kinds as meets-kinds
+use Rattle.ranges.proofs.side.meets.Reads as meets
 use Rattle.ranges.proofs.prefix.prefix_to_range.Kinds as prefix-to-range-kinds
 use Rattle.ranges.proofs.prefix.prefix_to_range.Reads as prefix-to-range
 use Rattle.ranges.proofs.expand.range_to_prefixes.Kinds as range-to-prefixes-kinds
@@ -19,6 +25,15 @@ refuse-one κs a x y e g p q = p ∙ sym q
 
 pub side-of-one : OneAnswer 0 side-of-kinds.ps side-of-kinds.r side-of.Learnt
 side-of-one κs a x y e g p q = p ∙ sym q
+
+pub closed-one : OneAnswer 0 closed-kinds.ps closed-kinds.r closed.Learnt
+closed-one κs a x y e g p q = p ∙ sym q
+
+pub is-void-one : OneAnswer 0 is-void-kinds.ps is-void-kinds.r is-void.Learnt
+is-void-one κs a x y e g p q = p ∙ sym q
+
+pub meets-one : OneAnswer 0 meets-kinds.ps meets-kinds.r meets.Learnt
+meets-one κs a x y e g p q = p ∙ sym q
 
 pub prefix-to-range-one : OneAnswer 0 prefix-to-range-kinds.ps prefix-to-range-kinds.r prefix-to-range.Learnt
 prefix-to-range-one κs a x y e g p q = p ∙ sym q

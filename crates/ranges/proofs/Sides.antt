@@ -13,7 +13,7 @@ use borrow.Author.Tests.{lt-ltb, le-ltb, le-leb, lt-leb, ltb-true, ltb-false, le
 use lib.Dec.{ltb, leb}
 use Rattle.ranges.specs.Numbers.{pick}
 use Rattle.ranges.proofs.Numbers.{never}
-use Rattle.ranges.specs.Sides.{endOf, sideOf, isInside}
+use Rattle.ranges.specs.Sides.{endOf, sideOf, meetOf, isInside}
 use Rattle.ranges.specs.declared.side.Side.{Side}
 use Rattle.ranges.specs.declared.side.Side.the-variants.{Below, Above, Inside}
 
@@ -32,50 +32,50 @@ module _ (high x : ℕ) where
   high-within lt = omega arith
 
 -- ---- which outcome a number has
-module _ (low high x : ℕ) where
-  -- a number less than low is below, whatever high is
-  pub side-below : x < low → sideOf low high x ≡ Below
+module _ (low past x : ℕ) where
+  -- a number less than low is below, whatever past is
+  pub side-below : x < low → sideOf low past x ≡ Below
   unfolding sideOf
   side-below lt = rw (lt-ltb x low lt)
 
-  pub side-above : low ≤ x → endOf high ≤ x → sideOf low high x ≡ Above
+  pub side-above : low ≤ x → past ≤ x → sideOf low past x ≡ Above
   unfolding sideOf
-  side-above le past = rw (le-ltb x low le, le-leb (endOf high) x past)
+  side-above le over = rw (le-ltb x low le, le-leb past x over)
 
-  pub side-inside : low ≤ x → x < endOf high → sideOf low high x ≡ Inside
+  pub side-inside : low ≤ x → x < past → sideOf low past x ≡ Inside
   unfolding sideOf
-  side-inside le within = rw (le-ltb x low le, lt-leb (endOf high) x within)
+  side-inside le within = rw (le-ltb x low le, lt-leb past x within)
 
 -- ---- what an outcome says of the number
 -- the three outcomes, with the facts that lead to each
-pub data Lies (low high x : ℕ) : Side → Type 0 where
-  lies-below : x < low → Lies low high x Below
-  lies-above : low ≤ x → endOf high ≤ x → Lies low high x Above
-  lies-inside : low ≤ x → x < endOf high → Lies low high x Inside
+pub data Lies (low past x : ℕ) : Side → Type 0 where
+  lies-below : x < low → Lies low past x Below
+  lies-above : low ≤ x → past ≤ x → Lies low past x Above
+  lies-inside : low ≤ x → x < past → Lies low past x Inside
 
-module _ (low high x : ℕ) where
-  pub lies : Lies low high x (sideOf low high x)
+module _ (low past x : ℕ) where
+  pub lies : Lies low past x (sideOf low past x)
   unfolding sideOf
-  lies = go (ltb x low) (leb (endOf high) x) refl refl
+  lies = go (ltb x low) (leb past x) refl refl
     where
-      go : (s t : Bool) → ltb x low ≡ s → leb (endOf high) x ≡ t → Lies low high x (pick s Below (pick t Above Inside))
+      go : (s t : Bool) → ltb x low ≡ s → leb past x ≡ t → Lies low past x (pick s Below (pick t Above Inside))
       go true t p q = lies-below (ltb-true x low p)
-      go false true p q = lies-above (ltb-false x low p) (leb-true (endOf high) x q)
-      go false false p q = lies-inside (ltb-false x low p) (leb-false (endOf high) x q)
+      go false true p q = lies-above (ltb-false x low p) (leb-true past x q)
+      go false false p q = lies-inside (ltb-false x low p) (leb-false past x q)
 
-of-below : {low high x : ℕ} {s : Side} → Lies low high x s → s ≡ Below → x < low
+of-below : {low past x : ℕ} {s : Side} → Lies low past x s → s ≡ Below → x < low
 of-below (lies-below lt) e = lt
-of-below (lies-above le past) e = never (cc)
+of-below (lies-above le over) e = never (cc)
 of-below (lies-inside le within) e = never (cc)
 
-of-above : {low high x : ℕ} {s : Side} → Lies low high x s → s ≡ Above → endOf high ≤ x
+of-above : {low past x : ℕ} {s : Side} → Lies low past x s → s ≡ Above → past ≤ x
 of-above (lies-below lt) e = never (cc)
-of-above (lies-above le past) e = past
+of-above (lies-above le over) e = over
 of-above (lies-inside le within) e = never (cc)
 
-of-inside : {low high x : ℕ} {s : Side} → Lies low high x s → s ≡ Inside → (low ≤ x) × (x < endOf high)
+of-inside : {low past x : ℕ} {s : Side} → Lies low past x s → s ≡ Inside → (low ≤ x) × (x < past)
 of-inside (lies-below lt) e = never (cc)
-of-inside (lies-above le past) e = never (cc)
+of-inside (lies-above le over) e = never (cc)
 of-inside (lies-inside le within) e = (le, within)
 
 inside-is : (s : Side) → isInside s ≡ true → s ≡ Inside
@@ -83,18 +83,26 @@ inside-is Below e = never (cc)
 inside-is Above e = never (cc)
 inside-is Inside e = refl
 
-module _ (low high x : ℕ) where
-  pub is-below : sideOf low high x ≡ Below → x < low
-  is-below = of-below (lies low high x)
+module _ (low past x : ℕ) where
+  pub is-below : sideOf low past x ≡ Below → x < low
+  is-below = of-below (lies low past x)
 
-  pub is-above : sideOf low high x ≡ Above → endOf high ≤ x
-  is-above = of-above (lies low high x)
+  pub is-above : sideOf low past x ≡ Above → past ≤ x
+  is-above = of-above (lies low past x)
 
-  pub is-inside : sideOf low high x ≡ Inside → (low ≤ x) × (x < endOf high)
-  is-inside = of-inside (lies low high x)
+  pub is-inside : sideOf low past x ≡ Inside → (low ≤ x) × (x < past)
+  is-inside = of-inside (lies low past x)
 
-  pub inside-yes : low ≤ x → x < endOf high → isInside (sideOf low high x) ≡ true
-  inside-yes le within = ap isInside (side-inside low high x le within)
+  pub inside-yes : low ≤ x → x < past → isInside (sideOf low past x) ≡ true
+  inside-yes le within = ap isInside (side-inside low past x le within)
 
-  pub inside-at : isInside (sideOf low high x) ≡ true → (low ≤ x) × (x < endOf high)
-  inside-at e = is-inside (inside-is (sideOf low high x) e)
+  pub inside-at : isInside (sideOf low past x) ≡ true → (low ≤ x) × (x < past)
+  inside-at e = is-inside (inside-is (sideOf low past x) e)
+
+-- ---- the code's tests of meeting
+module _ (low past low′ past′ : ℕ) where
+  pub meets-not : past′ ≤ low → false ≡ meetOf low past low′ past′
+  meets-not over = rw (le-ltb low past′ over)
+
+  pub meets-by : low < past′ → ltb low′ past ≡ meetOf low past low′ past′
+  meets-by before = rw (lt-ltb low past′ before)

@@ -92,5 +92,5 @@ pub one : {low high : ℕ} → Ranged 1 low high → length (prefixesOf 1 low hi
 one = one-prefix
 
 -- T5
-pub side-says : (low high x : ℕ) → Lies low high x (sideOf low high x)
+pub side-says : (low past x : ℕ) → Lies low past x (sideOf low past x)
 side-says = lies

@@ -1,11 +1,13 @@
 -- 01, Lists and headers: the range test, whose outcomes are tried in the order below, above, inside.
--- Everything that speaks of a range goes through `endOf`, the first number past it: a range is closed at both
--- ends. Contracts above cite `sideOf`; proofs use its laws (`proofs/Sides.antt`) and do not unfold it.
+-- A range is its low and the first number past it: the test, void and meeting know nothing of how a range ends.
+-- `endOf` and `closedAt` alone say that a range low to high is closed at both ends. Contracts above cite `sideOf`;
+-- proofs use its laws (`proofs/Sides.antt`) and do not unfold it.
 -- Assumes nothing: these are definitions.
 use Prim.Native.Nat.{ℕ, _+_}
 use mathlib.Core.Bool.{Bool, true, false}
 use lib.Dec.{ltb, leb}
-use Rattle.ranges.specs.Numbers.{pick}
+use Rattle.ranges.specs.Numbers.{pick, _and_}
+use Rattle.ranges.specs.declared.side.Range.{Range}
 use Rattle.ranges.specs.declared.side.Side.{Side}
 use Rattle.ranges.specs.declared.side.Side.the-variants.{Below, Above, Inside}
 
@@ -13,10 +15,23 @@ use Rattle.ranges.specs.declared.side.Side.the-variants.{Below, Above, I
 unfoldable pub endOf : ℕ → ℕ
 endOf high = high + 1
 
--- x is below where it is less than low, else above where it is past the range, else inside
+-- the range low to high, both counted
+abbrev pub closedAt : ℕ → ℕ → Range
+closedAt low high = record { low = low; past = endOf high }
+
+-- x is below where it is less than low, else above where it is not before past, else inside
 -- (250 is above 200-249 and inside 200-299; of 5-3, 4 is below, 5 above, and nothing inside)
 unfoldable pub sideOf : ℕ → ℕ → ℕ → Side
-sideOf low high x = pick (ltb x low) Below (pick (leb (endOf high) x) Above Inside)
+sideOf low past x = pick (ltb x low) Below (pick (leb past x) Above Inside)
+
+-- the range holds no number
+abbrev pub voidOf : ℕ → ℕ → Bool
+voidOf low past = leb past low
+
+-- the low of each of two ranges is before the other's end
+-- (0-9 and 9-12 meet; 0-9 and 10-12 do not)
+abbrev pub meetOf : ℕ → ℕ → ℕ → ℕ → Bool
+meetOf low past low′ past′ = ltb low past′ and ltb low′ past
 
 -- the outcome is inside
 abbrev pub isInside : Side → Bool

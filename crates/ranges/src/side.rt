@@ -1,6 +1,6 @@
 // The single range test.
 ghost use mathlib.Core.Path.{_≡_};
-ghost use Rattle.ranges.specs.Sides.{sideOf};
+ghost use Rattle.ranges.specs.Sides.{closedAt, sideOf, voidOf, meetOf};
 
 // On which side of a range a number lies, in the order in which the outcomes are tried.
 pub enum Side {
@@ -9,15 +9,48 @@ pub enum Side {
     Inside,
 }
 
-// Says on which side of low to high, both counted, the number x lies, tried in 01's order: below, above, inside.
-pub fn side_of(low: u32, high: u32, x: u32) -> Side
-    ensures { λ r. ⌜ r ≡ sideOf low high x ⌝ }
+// A range: the numbers from low to before past, the first number past it; none where past is at most low.
+pub struct Range {
+    pub low: u32,
+    pub past: u64,
+}
+
+// Makes the range low to high, both counted. Nothing else knows how a range ends.
+pub fn closed(low: u32, high: u32) -> Range
+    ensures { λ r. ⌜ r ≡ closedAt low high ⌝ }
 {
-    if x < low {
+    Range {
+        low,
+        past: high as u64 + 1,
+    }
+}
+
+// Says on which side of a range the number x lies, tried in 01's order: below, above, inside.
+pub fn side_of(range: Range, x: u32) -> Side
+    ensures { λ r. ⌜ r ≡ sideOf (range .low) (range .past) x ⌝ }
+{
+    if x < range.low {
         return Side::Below;
     }
-    if high < x {
+    if range.past <= x as u64 {
         return Side::Above;
     }
     Side::Inside
+}
+
+// Says whether a range holds no number.
+pub fn is_void(range: Range) -> bool
+    ensures { λ r. ⌜ r ≡ voidOf (range .low) (range .past) ⌝ }
+{
+    range.past <= range.low as u64
+}
+
+// Says whether the low of each of two ranges is before the other's end.
+pub fn meets(a: Range, b: Range) -> bool
+    ensures { λ r. ⌜ r ≡ meetOf (a .low) (a .past) (b .low) (b .past) ⌝ }
+{
+    if b.past <= a.low as u64 {
+        return false;
+    }
+    (b.low as u64) < a.past
 }

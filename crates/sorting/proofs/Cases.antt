@@ -8,7 +8,7 @@ use mathlib.Core.List.{List, [], _∷_, _++_}
 use mathlib.Core.Path.{_≡_, refl, ap, _∙_, subst}
 use Rattle.ranges.specs.Numbers.{all, count, least, greatest, tab}
 use Rattle.ranges.specs.Sides.{endOf}
-use Rattle.lists.specs.Rules.{Rules, listed, rulesIn, cellOf, lowOf, highOf}
+use Rattle.lists.specs.Rules.{Rules, listed, rulesIn, cellOf, lowOf, highOf, endsAt}
 use Rattle.lists.specs.Faults.{shapeFault, badRule, endsFault, listFault}
 use Rattle.sorting.specs.Order.{standingOf, compare}
 use Rattle.sorting.specs.FirstFit.{fitOf, firstFit, parts}
@@ -44,11 +44,11 @@ abbrev pub benchChoice : List ℕ
 benchChoice = 0 ∷ 0 ∷ 0 ∷ 1 ∷ 2 ∷ []
 
 pub bench-choice : firstFit bench (rulesIn bench) ≡ benchChoice
-unfolding rulesIn firstFit fitOf all least compare standingOf endOf lowOf highOf cellOf
+unfolding rulesIn firstFit fitOf all least compare standingOf endOf lowOf highOf endsAt cellOf
 bench-choice = refl
 
 bench-table : tableOf bench benchChoice ≡ benchTable
-unfolding tableOf rulesIn parts ruleAt placeOf startOf runFrom runTo count least greatest tab compare standingOf endOf lowOf highOf cellOf
+unfolding tableOf rulesIn parts ruleAt placeOf startOf runFrom runTo count least greatest tab compare standingOf endOf lowOf highOf endsAt cellOf
 bench-table = refl
 
 -- ---- the tables
@@ -61,7 +61,7 @@ b9 = refl
 
 -- ---- they keep the promise: neither list meets one of 1 to 4
 bench-stands : listFault bench .number ≡ 0
-unfolding shapeFault endsFault badRule rulesIn all least endOf lowOf highOf cellOf
+unfolding shapeFault endsFault badRule rulesIn all least endOf lowOf highOf endsAt cellOf
 bench-stands = refl
 
 empty-stands : listFault empty .number ≡ 0

@@ -11,12 +11,6 @@ use Rattle.sorting.specs.FirstFit.{Choice, parts}
 use Rattle.tables.specs.Layout.{TableFor, orderAt, startAt}
 use Rattle.sorting.specs.Table.{ruleAt}
 
--- field f of rule i, of a list whose shape stands
-pub record OneField (R : Rules) (i f : ℕ) : Type 0 where
-  pub shape-stands : Shaped R
-  pub rule : i < rulesIn R
-  pub field : f < fieldsOf R
-
 -- rules i and j of a list whose shape stands
 pub record TwoRules (R : Rules) (i j : ℕ) : Type 0 where
   pub shape-stands : Shaped R
