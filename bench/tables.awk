@@ -2,6 +2,8 @@
 #   build CHARACTER n d b PROVED PLAIN SORTED                                     nanoseconds of one build
 #   lookup CHARACTER n d b TESTS HITS PROVED RUST C SCAN C_SCAN ACL_MANY ACL_ONE   nanoseconds of one lookup; - where not measured
 #   gateway RULES HEADERS BYTES I_PROVED I_PLAIN T_PROVED T_PLAIN                 instructions, seconds
+#   code FUNCTION WORD                                                            same, other, new or gone against the commit before
+#   before FUNCTION CHARACTER n d b RATIO BEFORE                                  nanoseconds of one call, a line for each placement
 function ratio(a, b) { return b == "-" || b == "" ? "-" : a / b >= 100 ? grouped(a / b) : sprintf(a / b < 0.095 ? "%.3f" : "%.2f", a / b) }
 function per_second(ns) { return ns == "-" || ns == "" ? "-" : sprintf(1000 / ns < 1 ? "%.3f" : "%.2f", 1000 / ns) }
 function micro(ns) { return sprintf(ns < 1e5 ? "%.1f" : "%.0f", ns / 1000) }
@@ -13,6 +15,14 @@ $1 == "lookup" && $2 != "fields" && $2 != "partitions" { looks[++nl] = $0 }
 $1 == "lookup" && $2 == "fields" { fields[++nf] = $0 }
 $1 == "lookup" && $2 == "partitions" { parts[++np] = $0 }
 $1 == "gateway" { gateway = $0 }
+$1 == "code" { code[$2] = $3; codes[++nc] = $2 }
+$1 == "before" {
+    row = $2 " " $3 " " $4 " " $5 " " $6
+    if (!(row in turns)) { rows[++nr] = row; low[row] = $7 }
+    turns[row]++; ratios[row] += $7; earlier[row] += $8
+    if ($7 < low[row]) low[row] = $7
+    if ($7 > high[row]) high[row] = $7
+}
 $1 == "lookup" {
     each = $8 / $6
     if (least == "" || each < least) least = each
@@ -44,8 +54,43 @@ function grouped(x, digits,    t) {
     t = sprintf("%." (digits + 0) "f", x)
     return x < 1000 ? t : sprintf("%d,%s", int(x / 1000), substr(t, length(int(x / 1000)) + 1))
 }
+# A time with its unit.
+function timed(ns) { return ns < 1000 ? sprintf("%.0f ns", ns) : micro(ns) " µs" }
+
+# Says whether an aim for a function holds on every list, by the mean over the placements.
+function aim(name, words, limit,    k, w, most, where) {
+    if (index(" " asked " ", " " name " ") == 0) return
+    for (k = 1; k <= nr; k++) {
+        split(rows[k], w, " ")
+        if (w[1] == name && ratios[rows[k]] / turns[rows[k]] > most) {
+            most = ratios[rows[k]] / turns[rows[k]]
+            where = sprintf("`%s_%d_rules_%d_fields`, %s", name, w[3], w[4], spoken(w[2]))
+        }
+    }
+    printf "- Aim: %s at most %.2f. ", words, limit
+    if (most == "") print "It holds: same code."
+    else printf "It **%s**: the greatest is %.3f (%s).\n", most <= limit ? "holds" : "does not hold", most, where
+}
 
 END {
+    if (nc) {
+        print "| function | machine code |"
+        print "|---|---|"
+        for (k = 1; k <= nc; k++) printf "| `%s` | %s |\n", codes[k], code[codes[k]] == "same" || code[codes[k]] == "other" ? code[codes[k]] " code" : code[codes[k]] == "new" ? "not there before" : "not there now"
+        print ""
+        if (nr) {
+            print "| bench | list | partitions | new over before | least | most | before |"
+            print "|---|---|--:|--:|--:|--:|--:|"
+            m = split(asked, names, " ")
+            for (i = 1; i <= m; i++) for (k = 1; k <= nr; k++) {
+                row = rows[k]; split(row, w, " ")
+                if (w[1] == names[i]) printf "| `%s_%d_rules_%d_fields` | %s | %s | **%.2f** | %.2f | %.2f | %s |\n", w[1], w[3], w[4], spoken(w[2]), grouped(w[5]), ratios[row] / turns[row], low[row], high[row], timed(earlier[row] / turns[row])
+            }
+            print ""
+        }
+        aim("lookup", "lookup (n ≥ 128)", 1.05)
+        aim("build", "build", 1.10)
+    }
     if (nb) {
         print "## Build\n"
         print "Time of the proved `cuy_build` over that of plain C, and microseconds of one build. *C first fit* compares a rule with the members of"

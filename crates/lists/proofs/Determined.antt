@@ -8,6 +8,10 @@ use Rattle.lists.proofs.shape.cell.Kinds as cell-kinds
 use Rattle.lists.proofs.shape.cell.Reads as cell
 use Rattle.lists.proofs.shape.rules_in.Kinds as rules-in-kinds
 use Rattle.lists.proofs.shape.rules_in.Reads as rules-in
+use Rattle.lists.proofs.shape.shape_of.Kinds as shape-of-kinds
+use Rattle.lists.proofs.shape.shape_of.Reads as shape-of
+use Rattle.lists.proofs.shape.in_list.Kinds as in-list-kinds
+use Rattle.lists.proofs.shape.in_list.Reads as in-list
 use Rattle.lists.proofs.shape.shape_fault.Kinds as shape-fault-kinds
 use Rattle.lists.proofs.shape.shape_fault.Reads as shape-fault
 use Rattle.lists.proofs.check.list_fault.Kinds as list-fault-kinds
@@ -26,6 +30,12 @@ cell-one κs a x y e g p q = p ∙ sym q
 
 pub rules-in-one : OneAnswer 1 rules-in-kinds.ps rules-in-kinds.r rules-in.Learnt
 rules-in-one κs a x y e g p q = p ∙ sym q
+
+pub shape-of-one : OneAnswer 0 shape-of-kinds.ps shape-of-kinds.r shape-of.Learnt
+shape-of-one κs a x y e g p q = p ∙ sym q
+
+pub in-list-one : OneAnswer 1 in-list-kinds.ps in-list-kinds.r in-list.Learnt
+in-list-one κs a x y e g p q = p ∙ sym q
 
 pub shape-fault-one : OneAnswer 1 shape-fault-kinds.ps shape-fault-kinds.r shape-fault.Learnt
 shape-fault-one κs a x y e g p q = p ∙ sym q

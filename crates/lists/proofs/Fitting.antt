@@ -1,7 +1,7 @@
 -- Laws of what fits a header (`specs/FirstMatch.antt`, `specs/Scan.antt`): a field, a rule, and which rule is the first.
 --     side-read, inside-read                the code's range test of one field
 --     match-rule, match-none                the first match, or none, from the rule at which the search for it ends
---     in-1, in-1-many, in-none, in-rule     whether a rule of the list fits, from the tests that lead there
+--     none-listed, rule-listed              whether a rule of the list fits, from the test that leads there
 --     fits-inside, inside-fits              what it means that a rule fits, either way round
 --     fits-same, first-same                 only the first d numbers of a header are read
 -- Assumes nothing.
@@ -9,18 +9,18 @@ use Prim.Native.Nat.{ℕ, _≤_, _<_}
 use mathlib.Core.Bool.{Bool, true, false}
 use mathlib.Core.List.{List}
 use mathlib.Core.Path.{_≡_, sym, ap, _∙_}
-use lib.ListN.{length, getD}
+use lib.ListN.{getD}
 use borrow.Author.Tests.{lt-ltb, le-ltb}
 use Rattle.ranges.specs.Sides.{sideOf, isInside}
 use Rattle.ranges.specs.declared.side.Range.{Range}
 use Rattle.ranges.specs.declared.side.Side.{Side}
 use Rattle.ranges.proofs.Numbers.{all-yes, all-at, all-same, least-same}
 use Rattle.ranges.proofs.Sides.{inside-yes, inside-at}
-use Rattle.lists.specs.Rules.{Rules, fieldsOf, rulesIn, cellOf, lowOf, endsAt, rangeAt}
+use Rattle.lists.specs.Rules.{Rules, fieldsOf, rulesIn, lowOf, endsAt, rangeAt}
 use Rattle.lists.specs.FirstMatch.{sideAt, insideAt, fits, firstMatch}
+use Rattle.lists.specs.Faults.{inList}
 use Rattle.lists.specs.Scan.{fitsIn, matchOf}
 use Rattle.lists.specs.declared.scan.Match.the-variants.{Rule, Nothing}
-use Rattle.lists.proofs.Rules.{rule-within, rule-past}
 
 -- the outcome of the test against a range, where a callee said that it is the rule's
 module _ (R : Rules) (h : List ℕ) (i f : ℕ) (g : Range) (is-range : g ≡ rangeAt R i f) where
@@ -38,26 +38,15 @@ module _ (R : Rules) (h : List ℕ) (i m : ℕ) (is-first : i ≡ firstMatch R h
   pub match-none : m ≤ i → Nothing ≡ matchOf R h
   match-none past = rw (← is-first, ← is-n, le-ltb i m past)
 
--- ---- whether a rule of the list fits
-module _ (R : Rules) (h : List ℕ) (i : ℕ) where
-  pub in-1 : fieldsOf R < 1 → false ≡ fitsIn R h i
+-- ---- whether a rule of the list fits: t is a callee's answer whether the list has it
+module _ (R : Rules) (h : List ℕ) (i : ℕ) {t : Bool} (is-t : t ≡ inList R i) where
+  pub none-listed : t ≡ false → false ≡ fitsIn R h i
   unfolding fitsIn
-  in-1 few = rw (lt-ltb (fieldsOf R) 1 few)
+  none-listed no-rule = rw (← is-t, no-rule)
 
-  pub in-1-many : 1 ≤ fieldsOf R → 8 < fieldsOf R → false ≡ fitsIn R h i
+  pub rule-listed : t ≡ true → (r : Bool) → r ≡ fits R h i → r ≡ fitsIn R h i
   unfolding fitsIn
-  in-1-many some many = rw (le-ltb (fieldsOf R) 1 some, lt-ltb 8 (fieldsOf R) many)
-
--- at is where the rule's last field ends
-module _ (R : Rules) (h : List ℕ) (i at : ℕ) (some : 1 ≤ fieldsOf R) (few : fieldsOf R ≤ 8) (is-cell : at ≡ cellOf (fieldsOf R) i (fieldsOf R)) where
-  pub in-none : length (R .numbers) < at → false ≡ fitsIn R h i
-  unfolding fitsIn
-  in-none lt = rw (le-ltb (fieldsOf R) 1 some, le-ltb 8 (fieldsOf R) few, le-ltb i (rulesIn R) (rule-past R i at some is-cell lt))
-
-  pub in-rule : at ≤ length (R .numbers) → (r : Bool) → r ≡ fits R h i → r ≡ fitsIn R h i
-  unfolding fitsIn
-  in-rule le r is-r =
-      rw (le-ltb (fieldsOf R) 1 some, le-ltb 8 (fieldsOf R) few, lt-ltb i (rulesIn R) (rule-within R i at some is-cell le)) is-r
+  rule-listed rule r is-r = rw (← is-t, rule) is-r
 
 -- ---- what it means that a rule fits
 -- low ≤ number, and the number is before the first one past the range

@@ -1,6 +1,7 @@
 -- The laws that proofs of this crate and above cite:
 -- Search: of a loop that tests 0, 1, .. until one answers otherwise.
 -- Rules: where a rule's numbers stand, and what a list of the right shape is.
+-- InList: which rules a list has.
 -- Faults: which refusal of 1 to 4 a list meets.
 -- Voids: of the refusal 4, low > high in a field, in a rule, in a list.
 -- Sound: what a list is that meets none of 1 to 4.
@@ -11,6 +12,7 @@
 -- Theorems: the statements on check, scan and order independence.
 pub mod Search
 pub mod Rules
+pub mod InList
 pub mod Faults
 pub mod Voids
 pub mod Sound

@@ -28,13 +28,14 @@ use Rattle.ranges.specs.declared.refusal.Refusal.{Refusal}
 use Rattle.ranges.specs.declared.refusal.Count.the-variants.{Is, Refused as CountRefused}
 use Rattle.ranges.proofs.Numbers.{never, picked, not-picked, and-left, and-right, true-not-false, least-is, least-none, least-hit, least-under, tab-length, tab-at}
 use Rattle.lists.specs.Rules.{Rules, Shaped, fieldsOf, rulesIn, cellOf, lowOf, endsAt, isVoid}
-use Rattle.lists.specs.Faults.{shapeFault, endsFault, listFault, badRule}
+use Rattle.lists.specs.Faults.{inList, shapeFault, endsFault, listFault, badRule}
 use Rattle.lists.specs.Check.{checkOf}
 use Rattle.lists.specs.FirstMatch.{fits, firstMatch}
 use Rattle.lists.specs.Scan.{fitsIn, matchOf, scanOf}
 use Rattle.lists.specs.Independence.{meet, partners, partnerOf, hasPartner, paired, pairOf, independenceOf}
 use Rattle.lists.specs.declared.scan.Match.the-variants.{Rule, Nothing, Refused as MatchRefused}
 use Rattle.lists.specs.declared.independence.Pair.the-variants.{Independent, Both, Refused as PairRefused}
+use Rattle.lists.proofs.InList.{Listed, in-told, in-yes}
 use Rattle.lists.proofs.Faults.{shaped, shape-few}
 use Rattle.lists.proofs.Voids.{bad, bad-field, ends-4, SoundRule, not-bad}
 use Rattle.lists.proofs.Sound.{Accepted, list-accepted, accepted-none, shaped-none, sound-answered}
@@ -166,35 +167,16 @@ module _ (R : Rules) (h : List ℕ) where
 
 -- rule i is one of the list, and low ≤ number ≤ high in all d fields
 pub record FitsRule (R : Rules) (h : List ℕ) (i : ℕ) : Type 0 where
-  pub some-fields : 1 ≤ fieldsOf R
-  pub few-fields : fieldsOf R ≤ 8
-  pub rule : i < rulesIn R
+  pub listed : Listed R i
   pub inside : (f : ℕ) → f < fieldsOf R → Inside R h i f
-
-or-none : (s t : Bool) → s or t ≡ false → (s ≡ false) × (t ≡ false)
-or-none true t e = never (cc)
-or-none false t e = (refl, e)
 
 -- what a yes of `rule_fits` tells, and when it is given; a lookup confirms its candidate by it
 pub rule-fits-iff : (R : Rules) (h : List ℕ) (i : ℕ) → (fitsIn R h i ≡ true) ↔ FitsRule R h i
 unfolding fitsIn
-rule-fits-iff R h i =
-    let few = ltb (fieldsOf R) 1 in
-    let many = ltb 8 (fieldsOf R) in
-    let rule = ltb i (rulesIn R) in (
-      λ e.
-          let fields = or-none few many (not-true (few or many) (and-left (not (few or many)) (rule and fits R h i) e)) in
-          let rest = and-right (not (few or many)) (rule and fits R h i) e in
-          record {
-            some-fields = ltb-false (fieldsOf R) 1 (fields .0);
-            few-fields = ltb-false 8 (fieldsOf R) (fields .1);
-            rule = ltb-true i (rulesIn R) (and-left rule (fits R h i) rest);
-            inside = fits-inside R h i (and-right rule (fits R h i) rest);
-          },
-      λ p.
-          rw (le-ltb (fieldsOf R) 1 (p .some-fields), le-ltb 8 (fieldsOf R) (p .few-fields), lt-ltb i (rulesIn R) (p .rule))
-          (inside-fits R h i (p .inside)),
-    )
+rule-fits-iff R h i = (
+  λ e. record { listed = in-told R i (and-left (inList R i) (fits R h i) e); inside = fits-inside R h i (and-right (inList R i) (fits R h i) e) },
+  λ p. rw (in-yes R i (p .listed)) (inside-fits R h i (p .inside)),
+)
 
 -- a header's numbers past d alter nothing
 module _ (R : Rules) (h g : List ℕ) (agree : (f : ℕ) → f < fieldsOf R → getD h f 0 ≡ getD g f 0) where

@@ -4,14 +4,19 @@ use Prim.Native.Nat.{ℕ, _*_, _%_}
 use mathlib.Core.Bool.{Bool, not}
 use lib.ListN.{length}
 use lib.Dec.{ltb, eqb}
-use Rattle.ranges.specs.Numbers.{pick, _or_, all, least}
+use Rattle.ranges.specs.Numbers.{pick, _and_, _or_, all, least}
 use Rattle.ranges.specs.Refusals.{none, refused, refusedAt, orElse, BadFields, BadLength, TooManyRules, LowAboveHigh}
 use Rattle.ranges.specs.declared.refusal.Refusal.{Refusal}
+use Rattle.lists.specs.Limits.{mostFields, mostRules}
 use Rattle.lists.specs.Rules.{Rules, fieldsOf, rulesIn, isVoid}
 
 -- 1: d is not 1 to 8
 abbrev pub badFields : Rules → Bool
-badFields R = ltb (fieldsOf R) 1 or ltb 8 (fieldsOf R)
+badFields R = ltb (fieldsOf R) 1 or ltb mostFields (fieldsOf R)
+
+-- d is 1 to 8, and the list has a rule i
+unfoldable pub inList : Rules → ℕ → Bool
+inList R i = not (badFields R) and ltb i (rulesIn R)
 
 -- 2: the list's length is no multiple of 2d
 abbrev pub badLength : Rules → Bool
@@ -19,7 +24,7 @@ badLength R = not (eqb (length (R .numbers) % (fieldsOf R * 2)) 0)
 
 -- 3: more than 1,024 rules
 abbrev pub tooManyRules : Rules → Bool
-tooManyRules R = ltb 1024 (rulesIn R)
+tooManyRules R = ltb mostRules (rulesIn R)
 
 -- 1, 2, 3 in this order
 unfoldable pub shapeFault : Rules → Refusal

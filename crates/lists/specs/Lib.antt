@@ -1,4 +1,6 @@
+pub mod Limits
 pub mod Rules
+pub mod Headers
 pub mod FirstMatch
 pub mod Faults
 pub mod Check

@@ -11,6 +11,11 @@ use lib.ListN.{length, getD}
 use Rattle.ranges.specs.Sides.{endOf, voidOf}
 use Rattle.ranges.specs.declared.side.Range.{Range}
 use Rattle.lists.specs.declared.shape.Shape.{Shape}
+use Rattle.lists.specs.Limits.{mostFields, mostRules}
+
+-- the shape of a list of d fields a rule
+abbrev pub shapeOf : ℕ → Shape
+shapeOf d = record { d = d }
 
 -- a list as lent, with the shape that gives its numbers their meaning
 pub record Rules : Type 0 where
@@ -56,17 +61,17 @@ isVoid R i f = voidOf (lowOf R i f) (endsAt R i f)
 -- a list whose shape stands: none of 1, 2, 3 applies to it
 pub record Shaped (R : Rules) : Type 0 where
   pub some-fields : 1 ≤ fieldsOf R
-  pub few-fields : fieldsOf R ≤ 8
+  pub few-fields : fieldsOf R ≤ mostFields
   pub whole : length (R .numbers) ≡ rulesIn R * fieldsOf R * 2
-  pub few-rules : rulesIn R ≤ 1024
+  pub few-rules : rulesIn R ≤ mostRules
 
 -- what private functions ask of their callers: rule i stands in the list up to its last field, of at most eight
 pub record HasRule (R : Rules) (i : ℕ) : Type 0 where
-  pub few-fields : fieldsOf R ≤ 8
+  pub few-fields : fieldsOf R ≤ mostFields
   pub within : cellOf (fieldsOf R) i (fieldsOf R) ≤ length (R .numbers)
 
 -- field f of rule i stands in the list
 pub record HasCell (R : Rules) (i f : ℕ) : Type 0 where
-  pub few-fields : fieldsOf R ≤ 8
+  pub few-fields : fieldsOf R ≤ mostFields
   pub field : f < fieldsOf R
   pub within : cellOf (fieldsOf R) i f + 1 < length (R .numbers)

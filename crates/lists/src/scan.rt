@@ -2,7 +2,7 @@
 use crate::check::list_fault;
 use crate::range::range_at;
 use crate::shape::Shape;
-use crate::shape::cell;
+use crate::shape::in_list;
 use crate::shape::rules_in;
 use ranges::refusal::Refusal;
 use ranges::side::Side;
@@ -52,14 +52,7 @@ fn fits_at(shape: Shape, list: &[u32], i: u16, header: &[u32; 8]) -> bool
 pub fn rule_fits(shape: Shape, list: &[u32], rule: u16, header: [u32; 8]) -> bool
     ensures { λ r. ⌜ r ≡ fitsIn (listed shape (now (list .entry))) header rule ⌝ }
 {
-    let d = shape.d;
-    if d < 1 {
-        return false;
-    }
-    if 8 < d {
-        return false;
-    }
-    if list.len() < cell(d as u16, rule, d as u16) {
+    if !in_list(shape, list, rule) {
         return false;
     }
     fits_at(shape, list, rule, &header)

@@ -6,12 +6,28 @@ use ranges::refusal::Refusal;
 use ranges::refusal::TOO_MANY_RULES;
 use ranges::refusal::refuse;
 ghost use mathlib.Core.Path.{_≡_};
-ghost use Rattle.lists.specs.Rules.{listed, rulesIn, cellOf};
-ghost use Rattle.lists.specs.Faults.{shapeFault};
+ghost use Rattle.lists.specs.Rules.{shapeOf, listed, rulesIn, cellOf};
+ghost use Rattle.lists.specs.Faults.{inList, shapeFault};
+
+// The most fields that a rule has.
+pub const MOST_FIELDS: usize = 8;
+
+// The most rules that a list has.
+pub const MOST_RULES: usize = 1024;
+
+// The most numbers that a list has.
+pub const MOST_NUMBERS: usize = MOST_RULES * MOST_FIELDS * 2;
 
 // What a list's numbers mean: the number of fields of a rule.
 pub struct Shape {
     pub d: usize,
+}
+
+// Makes the shape of a list of d fields a rule, whatever d is.
+pub fn shape_of(d: usize) -> Shape
+    ensures { λ r. ⌜ r ≡ shapeOf d ⌝ }
+{
+    Shape { d }
 }
 
 // Says where in a list the low of field f of rule i stands, for rules of d fields; its high stands one further.
@@ -32,6 +48,20 @@ pub fn rules_in(shape: Shape, list: &[u32]) -> usize
     list.len() / 2 / d
 }
 
+// Says whether a list has a rule of this number, whose fields are 1 to 8: its last field ends within the list.
+pub fn in_list(shape: Shape, list: &[u32], rule: u16) -> bool
+    ensures { λ r. ⌜ r ≡ inList (listed shape (now (list .entry))) rule ⌝ }
+{
+    let d = shape.d;
+    if d < 1 {
+        return false;
+    }
+    if MOST_FIELDS < d {
+        return false;
+    }
+    cell(d as u16, rule, d as u16) <= list.len()
+}
+
 // Gives the first of the refusals 1, 2 and 3 that applies to a list's shape, or the one that refuses nothing.
 pub fn shape_fault(shape: Shape, list: &[u32]) -> Refusal
     ensures { λ r. ⌜ r ≡ shapeFault (listed shape (now (list .entry))) ⌝ }
@@ -40,14 +70,14 @@ pub fn shape_fault(shape: Shape, list: &[u32]) -> Refusal
     if d < 1 {
         return refuse(BAD_FIELDS);
     }
-    if 8 < d {
+    if MOST_FIELDS < d {
         return refuse(BAD_FIELDS);
     }
     let n = rules_in(shape, list);
     if n * d * 2 != list.len() {
         return refuse(BAD_LENGTH);
     }
-    if 1024 < n {
+    if MOST_RULES < n {
         return refuse(TOO_MANY_RULES);
     }
     refuse(0)

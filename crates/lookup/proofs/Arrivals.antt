@@ -12,6 +12,7 @@ use Rattle.ranges.specs.Numbers.{pick, _and_, _or_}
 use Rattle.ranges.proofs.Numbers.{never}
 use Rattle.lists.specs.Rules.{Rules, fieldsOf, rulesIn}
 use Rattle.lists.specs.FirstMatch.{fits}
+use Rattle.lists.specs.Faults.{inList}
 use Rattle.lists.specs.Scan.{fitsIn}
 use Rattle.tables.specs.Layout.{View}
 use Rattle.lookup.specs.Walk.{arrivedOf}
@@ -21,7 +22,7 @@ use Rattle.lookup.specs.declared.walk.Walked.the-variants.{Ran, Broken}
 
 -- for 1 to 8 fields, whether the list has a rule i that fits is the confirming comparison with its bound
 confirmed : (R : Rules) (h : List ℕ) (i : ℕ) → 1 ≤ fieldsOf R → fieldsOf R ≤ 8 → fitsIn R h i ≡ (ltb i (rulesIn R) and fits R h i)
-unfolding fitsIn
+unfolding fitsIn inList
 confirmed R h i some few = rw (le-ltb (fieldsOf R) 1 some, le-ltb 8 (fieldsOf R) few)
 
 -- ---- as the code works it out: i is the rule number at place s, and fit whether the list has such a rule that fits

@@ -15,7 +15,8 @@ use Rattle.ranges.specs.Blocks.{blockFits, blockOf, prefixesFrom, prefixesOf, f
 use Rattle.lists.specs.Rules.{rulesIn, cellOf, lowOf, highOf, endsAt}
 use Rattle.lists.specs.FirstMatch.{fits}
 use Rattle.lists.specs.Faults.{shapeFault}
-use Rattle.sorting.specs.Order.{standingOf, compare}
+use Rattle.ranges.specs.Standings.{standingOf}
+use Rattle.ordering.specs.Order.{compare}
 use Rattle.sorting.specs.FirstFit.{fitOf, firstFit, parts}
 use Rattle.tables.specs.Layout.{tableLength, orderAt, startAt, fromAt, toAt}
 use Rattle.sorting.specs.Table.{placeOf, ruleAt, startOf, runFrom, runTo, tableOf, builtTable}

@@ -25,13 +25,14 @@ use Rattle.ranges.proofs.Sides.{inside-at, inside-yes}
 use Rattle.lists.specs.Rules.{Rules, fieldsOf, rulesIn, lowOf, endsAt}
 use Rattle.lists.specs.FirstMatch.{insideAt, fits}
 use Rattle.tables.specs.Layout.{View}
-use Rattle.sorting.specs.Order.{compare, isAlike}
+use Rattle.ranges.specs.Standings.{isAlike}
+use Rattle.ordering.specs.Order.{compare}
 use Rattle.sorting.specs.Promise.{InPart, Run, Promise}
-use Rattle.sorting.specs.declared.order.Standing.the-variants.{Alike}
+use Rattle.ranges.specs.declared.standing.Standing.the-variants.{Alike}
 use Rattle.lists.proofs.Sound.{Sound}
-use Rattle.sorting.proofs.Standings.{alike-is}
-use Rattle.sorting.proofs.Comparing.{compare-none, alike-refl, alike-sym, alike-trans, alike-fewer, alike-fields}
-use Rattle.sorting.proofs.Ordering.{Under, before-at, convex}
+use Rattle.ranges.proofs.Standings.{alike-is}
+use Rattle.ordering.proofs.Comparing.{compare-none, alike-refl, alike-sym, alike-trans, alike-fewer, alike-fields}
+use Rattle.ordering.proofs.Ordering.{Under, before-at, convex}
 use Rattle.lookup.proofs.Steps.{Trusted}
 
 -- ---- what a promise says of the partitions

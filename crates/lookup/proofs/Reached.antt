@@ -30,15 +30,16 @@ use Rattle.lists.proofs.Rules.{row-inside}
 use Rattle.lists.proofs.Faults.{shape-stands, shaped}
 use Rattle.tables.specs.Layout.{View}
 use Rattle.tables.specs.Opening.{viewOf}
-use Rattle.sorting.specs.Order.{compare, isClash, before, clash}
+use Rattle.ranges.specs.Standings.{isClash}
+use Rattle.ordering.specs.Order.{compare, before, clash}
 use Rattle.sorting.specs.FirstFit.{partOf, firstFit}
 use Rattle.sorting.specs.Promise.{InPart, Promise}
-use Rattle.sorting.specs.declared.order.Standing.the-variants.{Alike}
+use Rattle.ranges.specs.declared.standing.Standing.the-variants.{Alike}
 use Rattle.sorting.specs.Table.{builtTable}
 use Rattle.lists.proofs.Sound.{Sound, sound-ends}
-use Rattle.sorting.proofs.Standings.{alike-is, before-is}
-use Rattle.sorting.proofs.Comparing.{compare-none, alike-fields}
-use Rattle.sorting.proofs.Ordering.{before-at, under-before}
+use Rattle.ranges.proofs.Standings.{alike-is, before-is}
+use Rattle.ordering.proofs.Comparing.{compare-none, alike-fields}
+use Rattle.ordering.proofs.Ordering.{before-at, under-before}
 use Rattle.sorting.proofs.Parts.{parts-over, parts-least}
 use Rattle.sorting.proofs.FirstFits.{free-yes, fit-is, first-fit-at}
 use Rattle.sorting.proofs.Reading.{read-parts, table-sized}

@@ -15,6 +15,10 @@ use Rattle.ranges.proofs.side.is_void.Kinds as is-void-kinds
 use Rattle.ranges.proofs.side.is_void.Reads as is-void
 use Rattle.ranges.proofs.side.meets.Kinds as meets-kinds
 use Rattle.ranges.proofs.side.meets.Reads as meets
+use Rattle.ranges.proofs.standing.standing_of.Kinds as standing-of-kinds
+use Rattle.ranges.proofs.standing.standing_of.Reads as standing-of
+use Rattle.ranges.proofs.standing.same_ends.Kinds as same-ends-kinds
+use Rattle.ranges.proofs.standing.same_ends.Reads as same-ends
 use Rattle.ranges.proofs.prefix.prefix_to_range.Kinds as prefix-to-range-kinds
 use Rattle.ranges.proofs.prefix.prefix_to_range.Reads as prefix-to-range
 use Rattle.ranges.proofs.expand.range_to_prefixes.Kinds as range-to-prefixes-kinds
@@ -34,6 +38,12 @@ is-void-one κs a x y e g p q = p ∙ sym q
 
 pub meets-one : OneAnswer 0 meets-kinds.ps meets-kinds.r meets.Learnt
 meets-one κs a x y e g p q = p ∙ sym q
+
+pub standing-of-one : OneAnswer 0 standing-of-kinds.ps standing-of-kinds.r standing-of.Learnt
+standing-of-one κs a x y e g p q = p ∙ sym q
+
+pub same-ends-one : OneAnswer 0 same-ends-kinds.ps same-ends-kinds.r same-ends.Learnt
+same-ends-one κs a x y e g p q = p ∙ sym q
 
 pub prefix-to-range-one : OneAnswer 0 prefix-to-range-kinds.ps prefix-to-range-kinds.r prefix-to-range.Learnt
 prefix-to-range-one κs a x y e g p q = p ∙ sym q

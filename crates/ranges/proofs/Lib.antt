@@ -5,6 +5,7 @@
 -- Answers: what an answer says tells it apart from every other.
 -- OneAnswer: a contract that allows one result alone.
 -- Sides: of the first number past a range and of the range test.
+-- Standings: how two ranges stand to each other.
 -- Prefixes: which answer a prefix has.
 -- Blocks: the largest aligned block, and the search by doubling.
 -- Expansion: the prefixes of a range, one law for an empty one and one for its first block.
@@ -20,6 +21,7 @@ pub mod Widths
 pub mod Answers
 pub mod OneAnswer
 pub mod Sides
+pub mod Standings
 pub mod Prefixes
 pub mod Blocks
 pub mod Expansion

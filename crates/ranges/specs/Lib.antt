@@ -1,5 +1,6 @@
 pub mod Numbers
 pub mod Refusals
 pub mod Sides
+pub mod Standings
 pub mod Prefixes
 pub mod Blocks

@@ -10,3 +10,4 @@ pub mod expand;
 pub mod prefix;
 pub mod refusal;
 pub mod side;
+pub mod standing;

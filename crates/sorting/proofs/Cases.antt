@@ -10,7 +10,8 @@ use Rattle.ranges.specs.Numbers.{all, count, least, greatest, tab}
 use Rattle.ranges.specs.Sides.{endOf}
 use Rattle.lists.specs.Rules.{Rules, listed, rulesIn, cellOf, lowOf, highOf, endsAt}
 use Rattle.lists.specs.Faults.{shapeFault, badRule, endsFault, listFault}
-use Rattle.sorting.specs.Order.{standingOf, compare}
+use Rattle.ranges.specs.Standings.{standingOf}
+use Rattle.ordering.specs.Order.{compare}
 use Rattle.sorting.specs.FirstFit.{fitOf, firstFit, parts}
 use Rattle.sorting.specs.Table.{placeOf, ruleAt, startOf, runFrom, runTo, tableOf, builtTable}
 use Rattle.tables.specs.Opening.{viewOf}

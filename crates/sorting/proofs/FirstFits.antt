@@ -25,7 +25,7 @@ use borrow.Author.Tests.{eq-eqb, eqb-true, ltb-true, ltb-false, not-true, not-fa
 use Rattle.ranges.specs.Numbers.{_and_}
 use Rattle.ranges.proofs.Numbers.{true-not-false, and-left, and-right, all-yes, all-at, all-some, all-same, least-is, least-hit, least-under, least-same}
 use Rattle.lists.specs.Rules.{Rules, rulesIn}
-use Rattle.sorting.specs.Order.{clash}
+use Rattle.ordering.specs.Order.{clash}
 use Rattle.sorting.specs.FirstFit.{partOf, free, fitOf, firstFit, parts, Choice}
 use Rattle.sorting.proofs.Parts.{parts-over}
 

@@ -1,9 +1,6 @@
 -- The laws that proofs of this crate and above cite, in the order of the argument.
---   The order of rules:
--- Standings: how two ranges stand to each other.
--- Comparing: how two rules stand to each other by their first fields.
--- Ordering: which of two rules comes first.
--- Fields: how two rules stand to each other, as the code finds it.
+--   The order of rules, of the crate below:
+-- Compared: what a comparison of two rules of the list says.
 --   The choice of partitions:
 -- Parts: how many partitions a run of partition numbers opens.
 -- FirstFits: first fit is a choice of partitions, and each rule gets the lowest that is free.
@@ -39,10 +36,7 @@
 -- Cases: the tables of B1 and B9.
 -- Theorems: what a reader may rely on.
 -- Determined: every contract allows one result alone.
-pub mod Standings
-pub mod Comparing
-pub mod Ordering
-pub mod Fields
+pub mod Compared
 pub mod Parts
 pub mod FirstFits
 pub mod Stamps

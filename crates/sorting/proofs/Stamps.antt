@@ -17,7 +17,7 @@ use lib.Seq.{getD-set-same, getD-set-other, ext-getD}
 use Rattle.ranges.specs.Numbers.{pick, _and_, all, tab}
 use Rattle.ranges.proofs.Numbers.{least-same, tab-length, tab-at}
 use Rattle.lists.specs.Rules.{Rules}
-use Rattle.sorting.specs.Order.{clash}
+use Rattle.ordering.specs.Order.{clash}
 use Rattle.sorting.specs.FirstFit.{partOf, free, fitOf}
 use Rattle.sorting.specs.Marks.{stampOf, markOf, stamped, unstamped, Marking}
 

@@ -9,7 +9,7 @@ use lib.ListN.{getD}
 use lib.Dec.{eqb}
 use Rattle.ranges.specs.Numbers.{_and_, all, least}
 use Rattle.lists.specs.Rules.{Rules, rulesIn}
-use Rattle.sorting.specs.Order.{clash}
+use Rattle.ordering.specs.Order.{clash}
 
 -- the partition number of rule i
 abbrev pub partOf : List ℕ → ℕ → ℕ

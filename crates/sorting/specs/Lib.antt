@@ -1,4 +1,3 @@
-pub mod Order
 pub mod FirstFit
 pub mod Table
 pub mod Promise

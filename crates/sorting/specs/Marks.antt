@@ -10,7 +10,7 @@ use lib.ListN.{length, getD}
 use lib.Dec.{eqb}
 use Rattle.ranges.specs.Numbers.{pick, least, tab}
 use Rattle.lists.specs.Rules.{Rules, rulesIn, Shaped}
-use Rattle.sorting.specs.Order.{clash}
+use Rattle.ordering.specs.Order.{clash}
 use Rattle.sorting.specs.FirstFit.{partOf, free}
 
 -- the stamp of rule i: no partition has it before rule i is taken

@@ -6,7 +6,7 @@ use Prim.Native.Nat.{ℕ, suc, _≤_, _<_}
 use mathlib.Core.Bool.{true}
 use mathlib.Core.Path.{_≡_}
 use Rattle.lists.specs.Rules.{Rules, fieldsOf, rulesIn, lowOf, endsAt}
-use Rattle.sorting.specs.Order.{alike, before}
+use Rattle.ordering.specs.Order.{alike, before}
 use Rattle.tables.specs.Layout.{View}
 
 -- place p is one of partition q

@@ -1,12 +1,12 @@
 // The choice of partitions: first fit, by marks.
-use crate::order::Standing;
-use crate::order::compare_rules;
 use lists::shape::Shape;
+use ordering::compare::compare_rules;
+use ranges::standing::Standing;
 ghost use mathlib.Core.Path.{_≡_};
 ghost use Prim.Native.Nat.{ℕ, max, _<_};
 ghost use lib.ListN.{length};
 ghost use Rattle.lists.specs.Rules.{listed};
-ghost use Rattle.sorting.specs.Order.{clash};
+ghost use Rattle.ordering.specs.Order.{clash};
 ghost use Rattle.sorting.specs.FirstFit.{parts, partOf, Chosen};
 ghost use Rattle.sorting.specs.Asked.{TwoRules, RunFor};
 ghost use Rattle.sorting.specs.Marks.{markOf, stamped, unstamped, Marking};

@@ -18,6 +18,5 @@ pub mod audit;
 pub mod build;
 mod choose;
 mod lay_out;
-mod order;
 pub mod report;
 mod written;

@@ -1,8 +1,9 @@
 -- `sorting::choose::clashes` meets its contract: at each arm, how the rules stand says whether they clash.
 -- Assumes nothing.
 use mathlib.Core.Path.{sym, ap, _∙_}
-use Rattle.sorting.specs.Order.{isClash}
+use Rattle.ranges.specs.Standings.{isClash}
 use borrow.Author.Needs.{needs}
+use Rattle.sorting.proofs.Compared.{compared-told}
 use Rattle.sorting.proofs.choose.clashes.Statement.{statement}
 use Rattle.sorting.proofs.choose.clashes.Tie as tie
 
@@ -23,19 +24,19 @@ enum-told-4 c = search needs
 
 -- twins clash
 returns : tie.Need-returns
-returns c = sym (ap isClash (sym (c .before .before .compare-rules .ensures) ∙ c .enum-told .given .1))
+returns c = sym (ap isClash (sym (compared-told (c .before .before .before .before .pre) (c .before .before .compare-rules .ensures)) ∙ c .enum-told .given .1))
 
 -- before
 returns-2 : tie.Need-returns-2
-returns-2 c = sym (ap isClash (sym (c .before .before .compare-rules .ensures) ∙ c .enum-told2 .given .1))
+returns-2 c = sym (ap isClash (sym (compared-told (c .before .before .before .before .pre) (c .before .before .compare-rules .ensures)) ∙ c .enum-told2 .given .1))
 
 -- after
 returns-3 : tie.Need-returns-3
-returns-3 c = sym (ap isClash (sym (c .before .before .compare-rules .ensures) ∙ c .enum-told3 .given .1))
+returns-3 c = sym (ap isClash (sym (compared-told (c .before .before .before .before .pre) (c .before .before .compare-rules .ensures)) ∙ c .enum-told3 .given .1))
 
 -- a clash
 returns-4 : tie.Need-returns-4
-returns-4 c = sym (ap isClash (sym (c .before .before .compare-rules .ensures) ∙ c .enum-told4 .given .1))
+returns-4 c = sym (ap isClash (sym (compared-told (c .before .before .before .before .pre) (c .before .before .compare-rules .ensures)) ∙ c .enum-told4 .given .1))
 
 pub clashes-spec : {M : Type 1} → statement M
 clashes-spec =

@@ -1,0 +1,90 @@
+# The proved code against that of the commit before, both in one program. The same machine code at another address was measured at 1.03 to
+# 1.13: so functions whose machine code is the same are not timed, and the others are timed at four placements. Sourced by bench/run;
+# uses root, here, out, flags, machine, archive, built, before, suffix, load, say, die, proved and what names machine, source and load.
+# With BENCH_ALWAYS=1 in the environment what has the same code is timed too: this tests the bench itself.
+
+compared=(lookup build plain_scan check audit independence report)
+heading='## Against the commit before'
+how='copy target/staticlib/libinterface.a aside at the commit before, once `rt staticlib interface` has written it'
+
+# Says what is wrong with what was asked for, and ends.
+refuse() { say "$*"; exit 2; }
+
+# Prints the section on the commit before of a file of results (1), or all else of it (0).
+section_of() { awk -v heading="$heading" -v inside="$1" '/^## / { now = $0 == heading } now + 0 == inside' "$2"; }
+
+# Stops where a file is not an archive that can be compared; keeps it, since the new one may be written over it.
+keep_before() { # FILE
+    [ "$machine" = x86_64 ] || refuse "--before needs x86-64, which the archives are compiled for; this is $machine"
+    need binutils command -v objcopy || die 'objcopy, objdump, nm and ld are missing, and binutils can not be installed'
+    [ -f "$1" ] && [ -r "$1" ] || refuse "$1 is not there or can not be read: $how"
+    ar t "$1" >/dev/null 2>&1 || refuse "$1 is not an archive: $how"
+    has "$1" 'cuy_.*' || refuse "$1 has no function cuy_..: $how"
+    for name in "${compared[@]}"; do has "$1" "cuy_$name" || refuse "$1 has no function cuy_$name, which bench/src/sides.h calls: $how"; done
+    cp "$1" "$out/before.a"
+}
+has() { nm -g --defined-only "$1" 2>/dev/null | grep -q " T $2\$"; } # FILE PATTERN
+
+# Links an archive into one object, and prints a line of the code that each of its functions reaches.
+one_object() { # ARCHIVE NAME: target/bench/NAME.o, NAME.code
+    ld -r --whole-archive "$1" -o "$out/$2.o" || refuse "$1 can not be linked for x86-64: $how"
+    objdump -t -s -r "$out/$2.o" | awk -v side="$2" -f "$here/code.awk" | sort >"$out/$2.code"
+}
+
+# Links the program with some bytes between a page's start and the code of each archive, and stops where the code does not lie there.
+place() { # BYTES
+    local side offsets=''
+    printf '.text\n.balign 4096\n.skip %s, 0xcc\n.section .note.GNU-stack,"",@progbits\n' "$1" | cc -c -x assembler - -o "$out/pad.o"
+    cc $flags -falign-functions=64 "$here"/src/{before,lists}.c "$out/pad.o" "$out/before.o" "$out/pad.o" "$out/new.o" -o "$out/before"
+    for side in before_ ''; do
+        offsets+=" $(((0x$(nm "$out/before" | sed -n "s/ T ${side}cuy_lookup\$//p") - $1) % 4096))"
+    done
+    [ "${placed:=$offsets}" = "$offsets" ] || die "the linker does not move the code by the bytes before it:$placed, then$offsets"
+}
+
+# Compares and times; writes target/bench/before.lines.
+against_before() { # FUNCTION..
+    local timed=() name word bytes placed=''
+    proved staticlib interface
+    [ -f "$archive" ] || refuse 'target/staticlib/libinterface.a is not built: leave --built out'
+    one_object "$out/before.a" before
+    one_object "$archive" new
+    nm -g --defined-only --format=posix "$out/before.o" | awk '{ print $1, "before_" $1 }' >"$out/names"
+    objcopy --redefine-syms="$out/names" "$out/before.o"
+    awk 'NR == FNR { before[$1] = $0; next }
+        { print "code", $1, !($1 in before) ? "new" : before[$1] == $0 ? "same" : "other"; delete before[$1] }
+        END { for (name in before) print "code", name, "gone" }' "$out/before.code" "$out/new.code" | sort >"$out/before.lines"
+    for name in "$@"; do
+        word=$(sed -n "s/^code cuy_$name //p" "$out/before.lines")
+        [ -n "$word" ] && [ "$word" != gone ] || die "the new archive has no function cuy_$name: alter bench/src/sides.h and bench/before.sh"
+        [ "$word" = same ] && [ "${BENCH_ALWAYS-}" != 1 ] || timed+=("$name")
+    done
+    sed -n 's/^code \(.*\) \(.*\)/bench: \1: \2 code/p' "$out/before.lines" >&2
+    [ ${#timed[@]} -gt 0 ] || return 0
+    for bytes in 16 32 48 64; do
+        say "${timed[*]}, $bytes bytes before the code .."
+        place "$bytes"
+        "$out/before" "${timed[@]}" >"$out/before.turn"
+        sed 's/^/before /' "$out/before.turn" >>"$out/before.lines"
+    done
+}
+
+# Prints the section: what was compared, where, how and with what outcome.
+before_section() { # FUNCTION..
+    cat <<TEXT
+$heading
+
+Written by \`bench/run --before FILE\`, in a run of its own: time of the new code over that of an archive kept from the commit before.
+
+- Machine: $(machine_named).
+- New code: $(code_named).
+- Before: \`$(basename "$before")\`, sha256 $(sha256sum "$out/before.a" | cut -c 1-12).
+- Load: $(load_named).
+- Method: the machine code of each function is compared first, bytes and relocations, with all that it reaches in its archive. Where it is other code, both
+  archives are linked into one program and take turns of at least 2 ms of processor time, 31 each; their ratio is the median over the pairs of turns. The
+  program is linked four times, with 16, 32, 48 and 64 bytes between a page's start and the code of each archive; new over before is the mean of the four
+  ratios, least and most stand beside it. Each side looks up in the table that it built itself; every table and answer of both is compared first.
+
+TEXT
+    awk -v asked="$*" -f "$here/tables.awk" "$out/before.lines"
+}

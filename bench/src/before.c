@@ -1,0 +1,123 @@
+// Times the functions of the new archive against those of the commit before, in one program. Each side builds its own table and looks up
+// in it. On every list all answers and tables are compared before anything is timed. The command's words name the functions to time;
+// prints one line of words for each of them and each list.
+#include "clock.h"
+#include "lists.h"
+#include "sides.h"
+#include <stdio.h>
+#include <stdlib.h>
+#include <string.h>
+
+enum { HEADERS = 2048, SCANS = 256, LONGEST = 32768, PAIRS = 31 };
+
+static struct list list;
+static uint32_t headers[HEADERS][8];
+static _Alignas(4096) uint16_t tables[2][LONGEST];
+static uint64_t answers[2][HEADERS][MOST_ANSWERED];
+static struct lent lent[2];
+static size_t b;
+static size_t kept; // which answers of a pass are kept: all bits for each one; 0 while timing, when each is written over the one before
+
+// Each of these is one pass of a side over what is counted; both sides go through the same machine code here.
+typedef void pass_of(int k);
+static void pass_build(int k) { sides[k].build(&lent[k], answers[k][0]); }
+static void pass_lookup(int k) { for (size_t i = 0; i < HEADERS; i++) sides[k].lookup(&lent[k], headers[i], answers[k][i & kept]); }
+static void pass_plain_scan(int k) { for (size_t i = 0; i < SCANS; i++) sides[k].plain_scan(&lent[k], headers[i], answers[k][i & kept]); }
+static void pass_check(int k) { sides[k].check(&lent[k], answers[k][0]); }
+static void pass_audit(int k) { sides[k].audit(&lent[k], answers[k][0]); }
+static void pass_independence(int k) { sides[k].independence(&lent[k], answers[k][0]); }
+static void pass_report(int k) { for (size_t i = 0; i < b; i++) sides[k].report(&lent[k], i, answers[k][i & kept]); }
+
+// What can be timed, and how often a pass does it (0: once a partition). The build comes first, since the others read its table.
+static struct kind {
+    const char *name;
+    pass_of *pass;
+    size_t steps;
+    int wanted;
+} kinds[] = {{"build", pass_build, 1, 0}, {"lookup", pass_lookup, HEADERS, 0}, {"plain_scan", pass_plain_scan, SCANS, 0}, {"check", pass_check, 1, 0},
+             {"audit", pass_audit, 1, 0}, {"independence", pass_independence, 1, 0}, {"report", pass_report, 0, 0}};
+enum { KINDS = sizeof kinds / sizeof *kinds };
+
+static pass_of *volatile timed;
+static void pass_before(void) { timed(BEFORE); }
+static void pass_new(void) { timed(NEW); }
+
+static void fail(const char *what, const char *name, const char *character) {
+    fprintf(stderr, "bench: %s: %s, on %s of %zu rules, %zu fields\n", name, what, character, list.n, list.d);
+    exit(1);
+}
+
+static size_t steps_of(const struct kind *kind) { return kind->steps ? kind->steps : b; }
+
+// Stops where a side refuses, or where the two do not answer alike.
+static void compare(const struct kind *kind, const char *character) {
+    memset(answers, 0, sizeof answers);
+    kept = SIZE_MAX;
+    kind->pass(BEFORE);
+    kind->pass(NEW);
+    kept = 0;
+    for (size_t i = 0; i < steps_of(kind); i++) {
+        if (answers[BEFORE][i][0] != 0 || answers[NEW][i][0] != 0) fail("a sound list or table is refused", kind->name, character);
+        if (memcmp(answers[BEFORE][i], answers[NEW][i], ALIKE * sizeof(uint64_t)) != 0) fail("the two sides answer differently", kind->name, character);
+    }
+}
+
+static int rising(const void *a, const void *z) { return (*(const double *)a > *(const double *)z) - (*(const double *)a < *(const double *)z); }
+
+static double median(double *xs) {
+    qsort(xs, PAIRS, sizeof *xs, rising);
+    return xs[PAIRS / 2];
+}
+
+// Lets both sides take turns and prints the median over the rounds of new over before, and of the nanoseconds of one step before. What slows
+// the machine down for a while slows both turns of a round, so the median ratio stands where the best turns of each side do not: under
+// load, the best of nine of the same code were measured at 0.78 to 1.21 of each other.
+static void time_both(const struct kind *kind) {
+    struct contender those[] = {{"before", pass_before, steps_of(kind), 0}, {"new", pass_new, steps_of(kind), 0}};
+    double turns[PAIRS][MOST_CONTENDERS], ratios[PAIRS], before[PAIRS];
+    timed = kind->pass;
+    take_rounds(those, 2, 2e6, PAIRS, turns);
+    for (int round = 0; round < PAIRS; round++) {
+        ratios[round] = turns[round][NEW] / turns[round][BEFORE];
+        before[round] = turns[round][BEFORE];
+    }
+    printf(" %.4f %.2f\n", median(ratios), median(before));
+    fflush(stdout);
+}
+
+// Compares all there is to compare on the list, then times those of the first m kinds that are wanted. Prints: function, character, n, d,
+// b, and what `time_both` prints.
+static void measure(const char *character, struct draw *from, size_t m) {
+    headers_for(&list, from, headers, HEADERS);
+    memset(tables, 255, sizeof tables);
+    for (int k = 0; k < 2; k++) {
+        size_t table_length = sides[k].table_length(list.n, list.d);
+        if (LONGEST < table_length) fail("the bench has no room for the table", "build", character);
+        lent[k] = (struct lent){list.n, list.d, list.n * 2 * list.d, table_length, list.numbers, tables[k]};
+    }
+    for (size_t k = 0; k < KINDS; k++) {
+        compare(&kinds[k], character);
+        if (k == 0) b = answers[NEW][0][3];
+    }
+    if (TABLES_ALIKE && memcmp(tables[BEFORE], tables[NEW], sizeof tables[NEW]) != 0) fail("the two sides write different tables", "build", character);
+    for (size_t k = 0; k < m; k++) {
+        if (!kinds[k].wanted) continue;
+        printf("%s %s %zu %zu %zu", kinds[k].name, character, list.n, list.d, b);
+        time_both(&kinds[k]);
+    }
+}
+
+int main(int count, char **words) {
+    static const size_t sizes[] = {128, 512, 1024};
+    struct draw from = {SEED};
+    for (int i = 1; i < count; i++)
+        for (size_t k = 0; k < KINDS; k++)
+            if (strcmp(words[i], kinds[k].name) == 0) kinds[k].wanted = 1;
+    // Build and lookup at every size, the others at the least and the greatest, twins and nested by the build alone.
+    for (size_t k = 0; k < 3; k++) points(&list, &from, sizes[k], 5), measure("points", &from, k == 1 ? 2 : KINDS);
+    for (size_t k = 0; k < 3; k++) access_list(&list, &from, sizes[k]), measure("access_list", &from, k == 1 ? 2 : KINDS);
+    for (size_t k = 0; k < 3; k++) prefixes(&list, &from, sizes[k]), measure("prefixes", &from, k == 1 ? 2 : KINDS);
+    twins(&list, 1024, 8), measure("twins", &from, 1);
+    nested(&list, 1024, 8), measure("nested", &from, 1);
+    return 0;
+}
