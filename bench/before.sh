@@ -1,7 +1,7 @@
 # The proved code against that of the commit before, both in one program. The same machine code at another address was measured at 1.03 to
 # 1.13: so functions whose machine code is the same are not timed, and the others are timed at four placements. Sourced by bench/run;
-# uses root, here, out, flags, machine, archive, built, before, suffix, load, say, die, proved and what names machine, source and load.
-# With BENCH_ALWAYS=1 in the environment what has the same code is timed too: this tests the bench itself.
+# uses here, out, flags, machine, archive, before, say, die, need, proved, machine_named, code_named and load_named.
+# With BENCH_ALWAYS=1 in the environment what has the same code is timed too, and nothing is written: this tests the bench itself.
 
 compared=(lookup build plain_scan check audit independence report)
 heading='## Against the commit before'
@@ -15,6 +15,7 @@ section_of() { awk -v heading="$heading" -v inside="$1" '/^## / { now = $0 == he
 
 # Stops where a file is not an archive that can be compared; keeps it, since the new one may be written over it.
 keep_before() { # FILE
+    local name
     [ "$machine" = x86_64 ] || refuse "--before needs x86-64, which the archives are compiled for; this is $machine"
     need binutils command -v objcopy || die 'objcopy, objdump, nm and ld are missing, and binutils can not be installed'
     [ -f "$1" ] && [ -r "$1" ] || refuse "$1 is not there or can not be read: $how"
@@ -25,7 +26,7 @@ keep_before() { # FILE
 }
 has() { nm -g --defined-only "$1" 2>/dev/null | grep -q " T $2\$"; } # FILE PATTERN
 
-# Links an archive into one object, and prints a line of the code that each of its functions reaches.
+# Links an archive into one object, and writes a line for each of its functions: the code that it reaches.
 one_object() { # ARCHIVE NAME: target/bench/NAME.o, NAME.code
     ld -r --whole-archive "$1" -o "$out/$2.o" || refuse "$1 can not be linked for x86-64: $how"
     objdump -t -s -r "$out/$2.o" | awk -v side="$2" -f "$here/code.awk" | sort >"$out/$2.code"
@@ -84,6 +85,9 @@ Written by \`bench/run --before FILE\`, in a run of its own: time of the new cod
   archives are linked into one program and take turns of at least 2 ms of processor time, 31 each; their ratio is the median over the pairs of turns. The
   program is linked four times, with 16, 32, 48 and 64 bytes between a page's start and the code of each archive; new over before is the mean of the four
   ratios, least and most stand beside it. Each side looks up in the table that it built itself; every table and answer of both is compared first.
+- How far to trust it: the same code on both sides, on one of them 16, 32 or 48 bytes further on, came out in this way at 0.99 to 1.01 for lookup, 0.98 to 1.04
+  for build, 0.95 to 1.06 for plain_scan, audit and report, and 0.99 to 1.34 for check and independence, whose loops are a few instructions long. (Measured
+  once, when this bench was written, on two processors under load.)
 
 TEXT
     awk -v asked="$*" -f "$here/tables.awk" "$out/before.lines"

@@ -13,6 +13,7 @@ use lib.Dec.{ltb}
 use lib.ListN.{length, getD, take}
 use Rattle.text.specs.Rows.{rowNext, keptAt}
 use Rattle.text.specs.declared.row.Row.{Row}
+use Rattle.calls.specs.Limits.{runMost, lineRoom}
 use Rattle.calls.specs.declared.line.Line.{Line}
 use Rattle.calls.specs.declared.word.Word.{Word}
 use Rattle.calls.specs.declared.word.Word.the-variants.{Check, Scan, Independent, Table, P2r, R2p, Unknown}
@@ -62,18 +63,18 @@ following-few Lookup = omega arith
 following-few Audit = omega arith
 following-few Report = omega arith
 
-pub call-over : (word : Word) (ns : List ℕ) → 35100 < length ns → wordSaid word ns ≡ badSaid
+pub call-over : (word : Word) (ns : List ℕ) → lineRoom < length ns → wordSaid word ns ≡ badSaid
 call-over Check ns over = rw (list-over ns 0 (omega arith))
 call-over Scan ns over = rw (list-over ns 8 (omega arith))
 call-over Independent ns over = rw (list-over ns 0 (omega arith))
 call-over (Table word) ns over = let few = following-few word in rw (tables-over ns (following word) (omega arith))
 call-over P2r ns over = p2r-bad ns (λ e. omega arith)
-call-over R2p ns over = go (ltb 200 (getD ns 3 0)) refl
+call-over R2p ns over = go (ltb runMost (getD ns 3 0)) refl
   where
     enough : 4 ≤ length ns
     enough = omega arith
 
-    go : (t : Bool) → ltb 200 (getD ns 3 0) ≡ t → wordSaid R2p ns ≡ badSaid
-    go true e = r2p-long ns enough (ltb-true 200 (getD ns 3 0) e)
-    go false e = let few = ltb-false 200 (getD ns 3 0) e in r2p-cut ns enough few (λ same. omega arith)
+    go : (t : Bool) → ltb runMost (getD ns 3 0) ≡ t → wordSaid R2p ns ≡ badSaid
+    go true e = r2p-long ns enough (ltb-true runMost (getD ns 3 0) e)
+    go false e = let few = ltb-false runMost (getD ns 3 0) e in r2p-cut ns enough few (λ same. omega arith)
 call-over Unknown ns over = refl

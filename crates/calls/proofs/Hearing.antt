@@ -21,10 +21,12 @@ use Rattle.text.specs.Rows.{fresh, inFront, cellsIn, allNumbers, valuesOf, many
 use Rattle.text.proofs.Puts.{put-then}
 use Rattle.text.proofs.Rows.{row-is}
 use Rattle.text.proofs.Counted.{cells-good, cells-count, cells-run, cells-long, many-few, many-large, values-length}
+use Rattle.calls.specs.Limits.{lineRoom, nameRoom}
 use Rattle.calls.specs.Lines.{Heard, heard, lineOf, numberEnds, numberTakes, nameEnds, nameTakes, heardByte}
 use Rattle.calls.specs.Names.{wordOf}
 use Rattle.calls.specs.Words.{badSaid}
 use Rattle.calls.specs.Answers.{wordSaid, wordsSaid, namedSaid, answerSaid}
+use Rattle.calls.proofs.Longest.{table-most}
 use Rattle.calls.proofs.Names.{name-over}
 use Rattle.calls.proofs.Answers.{unnamed, ill-read, crowded, called, call-over}
 
@@ -109,42 +111,42 @@ front-put : (run vs : List ℕ) (k : ℕ) → length vs ≡ k → k ≤ length r
 front-put run vs k is fits = ap (take k) (sets-eq vs run 0 (omega arith)) ∙ take-at vs (drop (0 + length vs) run) k is
 
 -- runs as the program has them, whatever they hold at first
-module _ (name numbers : List ℕ) (long : length name ≡ 16) (many : length numbers ≡ 35100) where
+module _ (name numbers : List ℕ) (long : length name ≡ nameRoom) (many : length numbers ≡ lineRoom) where
   -- a name that is cut short asks for no call, nor does the whole name
   name-asks : (w : List ℕ) → wordOf (take (placeAfter (length name) 0 (length w)) (sets name 0 w)) ≡ wordOf w
-  name-asks w = go (leb (length w) 16) refl
+  name-asks w = go (leb (length w) nameRoom) refl
     where
-      go : (t : Bool) → leb (length w) 16 ≡ t → wordOf (take (placeAfter (length name) 0 (length w)) (sets name 0 w)) ≡ wordOf w
+      go : (t : Bool) → leb (length w) nameRoom ≡ t → wordOf (take (placeAfter (length name) 0 (length w)) (sets name 0 w)) ≡ wordOf w
       go true e =
-          let few = leb-true (length w) 16 e in
+          let few = leb-true (length w) nameRoom e in
           let whole : placeAfter (length name) 0 (length w) ≡ length w = omega arith in
           ap (λ j. wordOf (take j (sets name 0 w))) whole ∙ ap wordOf (front-put name w (length w) refl (omega arith))
       go false e =
-          let over = leb-false (length w) 16 e in
-          let cut : placeAfter (length name) 0 (length w) ≡ 16 = omega arith in
-          let room : 16 ≤ length (sets name 0 w) = omega (arith, length-sets name 0 w) in
-          let size : length (take 16 (sets name 0 w)) ≡ 16 = length-take-le 16 (sets name 0 w) room in
-          ap (λ j. wordOf (take j (sets name 0 w))) cut ∙ name-over (take 16 (sets name 0 w)) (omega arith) ∙ sym (name-over w (omega arith))
+          let over = leb-false (length w) nameRoom e in
+          let cut : placeAfter (length name) 0 (length w) ≡ nameRoom = omega arith in
+          let room : nameRoom ≤ length (sets name 0 w) = omega (arith, length-sets name 0 w) in
+          let size : length (take nameRoom (sets name 0 w)) ≡ nameRoom = length-take-le nameRoom (sets name 0 w) room in
+          ap (λ j. wordOf (take j (sets name 0 w))) cut ∙ name-over (take nameRoom (sets name 0 w)) (omega arith) ∙ sym (name-over w (omega arith))
 
   -- what the cells come to
   abbrev come : List (List ℕ) → Reading
   come cs = readCells 0 (begin numbers) cs
 
-  come-long : (cs : List (List ℕ)) → length (come cs .run) ≡ 35100
+  come-long : (cs : List (List ℕ)) → length (come cs .run) ≡ lineRoom
   come-long cs = cells-long cs 0 (begin numbers) ∙ many
 
-  come-few : (cs : List (List ℕ)) → length cs ≤ 35100 → come cs .row .cells ≡ length cs
+  come-few : (cs : List (List ℕ)) → length cs ≤ lineRoom → come cs .row .cells ≡ length cs
   come-few cs few =
-      let exact : manyMore 0 cs ≡ 0 + length cs = many-few cs 0 (omega arith) in
+      let exact : manyMore 0 cs ≡ 0 + length cs = many-few cs 0 (omega (arith, table-most)) in
       omega (arith, cells-count 0 (begin numbers) cs)
 
-  come-over : (cs : List (List ℕ)) → 35100 < length cs → 35100 < come cs .row .cells
+  come-over : (cs : List (List ℕ)) → lineRoom < length cs → lineRoom < come cs .row .cells
   come-over cs over = go (leb (length cs) 65536) refl
     where
       count : come cs .row .cells ≡ manyMore 0 cs
       count = cells-count 0 (begin numbers) cs
 
-      go : (t : Bool) → leb (length cs) 65536 ≡ t → 35100 < come cs .row .cells
+      go : (t : Bool) → leb (length cs) 65536 ≡ t → lineRoom < come cs .row .cells
       go true e =
           let few = leb-true (length cs) 65536 e in
           let same : manyMore 0 cs ≡ 0 + length cs = many-few cs 0 (omega arith) in
@@ -152,32 +154,32 @@ module _ (name numbers : List ℕ) (long : length name ≡ 16) (many : length nu
       go false e =
           let more = leb-false (length cs) 65536 e in
           let large : 65535 ≤ manyMore 0 cs = many-large cs 0 (omega arith) (omega arith) in
-          omega (arith, count)
+          omega (arith, count, table-most)
 
   -- a name and its cells, each way
   cells-answered : (w : List ℕ) (cs : List (List ℕ))
       → cellsSaid (placeAfter (length name) 0 (length w)) (sets name 0 w) (come cs) ≡ pick (allNumbers cs) (wordSaid (wordOf w) (valuesOf cs)) badSaid
-  cells-answered w cs = go (allNumbers cs) (leb (length cs) 35100) refl refl
+  cells-answered w cs = go (allNumbers cs) (leb (length cs) lineRoom) refl refl
     where
       k : ℕ
       k = placeAfter (length name) 0 (length w)
 
-      go : (s t : Bool) → allNumbers cs ≡ s → leb (length cs) 35100 ≡ t
+      go : (s t : Bool) → allNumbers cs ≡ s → leb (length cs) lineRoom ≡ t
           → cellsSaid k (sets name 0 w) (come cs) ≡ pick s (wordSaid (wordOf w) (valuesOf cs)) badSaid
       go false t p q = ill-read k (sets name 0 w) (come cs .row) (come cs .run) (cells-good 0 (begin numbers) cs ∙ p)
       go true false p q =
-          let over = leb-false (length cs) 35100 q in
+          let over = leb-false (length cs) lineRoom q in
           let good = cells-good 0 (begin numbers) cs ∙ p in
           let past : length (come cs .run) < come cs .row .cells = omega (arith, come-long cs, come-over cs over) in
-          let past' : 35100 < length (valuesOf cs) = omega (arith, values-length cs) in
+          let past' : lineRoom < length (valuesOf cs) = omega (arith, values-length cs) in
           crowded k (sets name 0 w) (come cs .row) (come cs .run) good past ∙ sym (call-over (wordOf w) (valuesOf cs) past')
       go true true p q =
-          let few = leb-true (length cs) 35100 q in
+          let few = leb-true (length cs) lineRoom q in
           let good = cells-good 0 (begin numbers) cs ∙ p in
           let count = come-few cs few in
           let fits : come cs .row .cells ≤ length (come cs .run) = omega (arith, come-long cs) in
           let within : k ≤ length (sets name 0 w) = omega (arith, length-sets name 0 w) in
-          let run : come cs .run ≡ sets numbers 0 (valuesOf cs) = cells-run cs 0 (begin numbers) p (omega arith) in
+          let run : come cs .run ≡ sets numbers 0 (valuesOf cs) = cells-run cs 0 (begin numbers) p (omega (arith, table-most)) in
           let front : take (length cs) (sets numbers 0 (valuesOf cs)) ≡ valuesOf cs = front-put numbers (valuesOf cs) (length cs) (values-length cs) (omega arith) in
           called k (sets name 0 w) (come cs .row) (come cs .run) good fits within
           ∙ ap (λ v. wordSaid v (take (come cs .row .cells) (come cs .run))) (name-asks w)

@@ -17,6 +17,7 @@ use Rattle.text.specs.Cells.{fed}
 use Rattle.text.specs.Puts.{placeAfter}
 use Rattle.text.proofs.Feeding.{fed-append}
 use Rattle.text.proofs.Rows.{kept-long}
+use Rattle.calls.specs.Limits.{lineRoom, nameRoom}
 use Rattle.calls.specs.Lines.{Heard, heard, unheard, numberEnds, numberTakes, nameEnds, nameTakes, heardByte}
 use Rattle.calls.specs.Answers.{answerTo, answerSaid}
 use Rattle.calls.specs.Replies.{Hears, begunLine}
@@ -47,10 +48,10 @@ bytes-kept (b ∷ l) s =
 
 -- ---- what has come of a line
 module _ {s : Heard} {soFar : List ℕ} (h : Hears s soFar) where
-  pub hears-name : length (s .name) ≡ 16
+  pub hears-name : length (s .name) ≡ nameRoom
   hears-name = ap (λ t. length (t .name)) (h .is) ∙ bytes-kept soFar (heard unheard (h .name) (h .numbers)) .name ∙ h .name-long
 
-  pub hears-numbers : length (s .numbers) ≡ 35100
+  pub hears-numbers : length (s .numbers) ≡ lineRoom
   hears-numbers = ap (λ t. length (t .numbers)) (h .is) ∙ bytes-kept soFar (heard unheard (h .name) (h .numbers)) .numbers ∙ h .numbers-long
 
   pub hears-more : (l : List ℕ) {t : Heard} → t ≡ fed heardByte s l → Hears t (soFar ++ l)
@@ -71,7 +72,7 @@ module _ {s : Heard} {soFar : List ℕ} (h : Hears s soFar) where
   hears-said = ap answerSaid (h .is) ∙ line-is (h .name) (h .numbers) (h .name-long) (h .numbers-long) soFar
 
 -- nothing has come of a new one
-pub hears-anew : {t : Heard} → length (t .name) ≡ 16 → length (t .numbers) ≡ 35100 → t .line ≡ unheard → Hears t []
+pub hears-anew : {t : Heard} → length (t .name) ≡ nameRoom → length (t .numbers) ≡ lineRoom → t .line ≡ unheard → Hears t []
 hears-anew {t} long many anew =
     record { name = t .name; numbers = t .numbers; name-long = long; numbers-long = many; is = ap (λ line. heard line (t .name) (t .numbers)) anew }
 
@@ -96,7 +97,7 @@ begun-bytes [] s e = e
 begun-bytes (b ∷ l) s e = begun-bytes l (heardByte s b) (begun-byte s b e)
 
 -- a first byte begins it
-begun-first : (name numbers : List ℕ) (b : ℕ) → length name ≡ 16 → begunLine (heardByte (heard unheard name numbers) b .line) ≡ true
+begun-first : (name numbers : List ℕ) (b : ℕ) → length name ≡ nameRoom → begunLine (heardByte (heard unheard name numbers) b .line) ≡ true
 unfolding heardByte
 begun-first name numbers b long = go (eqb b 32)
   where

@@ -1,5 +1,6 @@
 -- Lent: the rest of a run, as it is lent.
 -- Few: laws of bytes put, at most so many.
+-- Longest: laws of how many numbers and bytes there are at most.
 -- Said: laws of answers as text.
 -- Parts: laws of the parts of a line's numbers.
 -- Narrowing: numbers of 16 bits, and their writing to a table.
@@ -15,6 +16,7 @@
 -- Replies: laws of serving line by line, said of the input's bytes.
 pub mod Lent
 pub mod Few
+pub mod Longest
 pub mod Said
 pub mod Parts
 pub mod Narrowing

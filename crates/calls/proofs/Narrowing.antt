@@ -13,6 +13,7 @@ use lib.ListN.{length, getD, set, take, replicate, length-set, length-append, le
 use lib.Seq.{ext-getD, getD-set-same, getD-set-other, take-at, length-take-le}
 use lib.Dec.{leb, eqb}
 use Rattle.ranges.proofs.Numbers.{all-yes, all-no, all-at}
+use Rattle.calls.specs.Limits.{tableMost}
 use Rattle.calls.specs.Parts.{allNarrow}
 
 -- ---- whether every number is one
@@ -60,11 +61,11 @@ pub narrowed-all : {ns T : List ℕ} {i : ℕ} → Narrowed ns T i → length ns
 narrowed-all {ns} {T} {i} so le = ext-getD 0 T ns (so .long) (λ k lt. so .written k (omega (arith, so .long)))
 
 -- ---- the room
--- room for them: the first part of a run of 18500 numbers
-pub room-enough : (ns : List ℕ) → length ns ≤ 18500 → length ns ≡ length (take (length ns) (replicate {A = ℕ} 18500 0))
-room-enough ns few =
-    let zeros : List ℕ = replicate 18500 0 in
-    sym (length-take-le (length ns) zeros (omega (arith, length-replicate {A = ℕ} 18500 0)))
+-- room for them: the first part of a run of m numbers, as many as a table has at most
+pub room-enough : (ns : List ℕ) {m : ℕ} → tableMost ≡ m → length ns ≤ tableMost → length ns ≡ length (take (length ns) (replicate {A = ℕ} m 0))
+room-enough ns {m} is few =
+    let zeros : List ℕ = replicate m 0 in
+    sym (length-take-le (length ns) zeros (omega (arith, is, length-replicate {A = ℕ} m 0)))
 
 -- and what stands there once they are written
 module _ {ns T : List ℕ} (is : T ≡ ns) (rest : List ℕ) where

@@ -18,6 +18,7 @@ use lib.Seq.{ext-getD}
 use lib.Dec.{ltb, leb, eqb}
 use Rattle.ranges.specs.Numbers.{pick, tab}
 use Rattle.ranges.proofs.Numbers.{never, tab-length, tab-at}
+use Rattle.calls.specs.Limits.{listMost, tableMost}
 use Rattle.calls.specs.Parts.{fromTo, runEnd, exactly, listEnd, onEnd, allNarrow, tableEnds, Tabled}
 use Rattle.calls.specs.declared.part.End.{End}
 use Rattle.calls.specs.declared.part.End.the-variants.{At, Missing}
@@ -89,18 +90,18 @@ module _ (ns : List ℕ) (more : ℕ) (end : End) where
 -- what the end of a list tells: it stands in the numbers from place 2 on, is not too long, and exactly so many numbers more follow
 pub record ListTo (ns : List ℕ) (more e : ℕ) : Type 0 where
   pub begun : 2 ≤ e
-  pub few : e ≤ 2 + 16500
+  pub few : e ≤ 2 + listMost
   pub follow : length ns ≡ e + more
 
 pub list-told : (ns : List ℕ) (more : ℕ) {e : ℕ} → listEnd ns more ≡ At e → ListTo ns more e
 unfolding listEnd
 list-told ns more told =
-    let whole = exact-told ns more (runEnd 16500 ns 1) told in
-    let run = run-told 16500 ns 1 (whole .0) in
+    let whole = exact-told ns more (runEnd listMost ns 1) told in
+    let run = run-told listMost ns 1 (whole .0) in
     record { begun = run .begun; few = run .few; follow = whole .1 }
 
 -- more numbers than a list and what follows it may have
-pub list-over : (ns : List ℕ) (more : ℕ) → 16502 + more < length ns → listEnd ns more ≡ Missing
+pub list-over : (ns : List ℕ) (more : ℕ) → 2 + listMost + more < length ns → listEnd ns more ≡ Missing
 list-over ns more over = go (listEnd ns more) refl
   where
     go : (x : End) → listEnd ns more ≡ x → listEnd ns more ≡ Missing
@@ -111,22 +112,22 @@ list-over ns more over = go (listEnd ns more) refl
 -- what the end of a table tells, whose length stands at place e: it is not too long, and exactly so many numbers more follow
 pub record TableAt (ns : List ℕ) (more e t : ℕ) : Type 0 where
   pub after : e + 1 ≤ t
-  pub few : t ≤ e + 1 + 18500
+  pub few : t ≤ e + 1 + tableMost
   pub follow : length ns ≡ t + more
 
-pub table-told : (ns : List ℕ) (more : ℕ) {e t : ℕ} {run end : End} → run ≡ runEnd 18500 ns e → end ≡ exactly ns more run → end ≡ At t → TableAt ns more e t
+pub table-told : (ns : List ℕ) (more : ℕ) {e t : ℕ} {run end : End} → run ≡ runEnd tableMost ns e → end ≡ exactly ns more run → end ≡ At t → TableAt ns more e t
 table-told ns more {e} {t} {run} {end} ran is at =
     let whole = exact-told ns more run (sym is ∙ at) in
-    let told = run-told 18500 ns e (sym ran ∙ whole .0) in
+    let told = run-told tableMost ns e (sym ran ∙ whole .0) in
     record { after = told .begun; few = told .few; follow = whole .1 }
 
-module _ (ns : List ℕ) (more : ℕ) {first : End} (listed : first ≡ runEnd 16500 ns 1) where
+module _ (ns : List ℕ) (more : ℕ) {first : End} (listed : first ≡ runEnd listMost ns 1) where
   -- no list
   pub tables-none : first ≡ Missing → Neither ≡ tableEnds ns more
   unfolding tableEnds
   tables-none none = rw (sym listed ∙ none)
 
-  module _ {e : ℕ} (at-list : first ≡ At e) {run second : End} (ran : run ≡ runEnd 18500 ns e) (is : second ≡ exactly ns more run) where
+  module _ {e : ℕ} (at-list : first ≡ At e) {run second : End} (ran : run ≡ runEnd tableMost ns e) (is : second ≡ exactly ns more run) where
     -- no table
     pub tables-cut : second ≡ Missing → Neither ≡ tableEnds ns more
     unfolding tableEnds
@@ -145,29 +146,29 @@ module _ (ns : List ℕ) (more : ℕ) {first : End} (listed : first ≡ runEnd 1
 -- and its numbers are of 16 bits
 pub record TableTo (ns : List ℕ) (more e t : ℕ) : Type 0 where
   pub begun : 2 ≤ e
-  pub few : e ≤ 2 + 16500
+  pub few : e ≤ 2 + listMost
   pub table : TableAt ns more e t
   pub narrow : allNarrow (fromTo (e + 1) t ns) ≡ true
 
 pub tables-told : (ns : List ℕ) (more : ℕ) {e t : ℕ} → tableEnds ns more ≡ Both e t → TableTo ns more e t
 unfolding tableEnds
-tables-told ns more {e} {t} = go (runEnd 16500 ns 1) refl
+tables-told ns more {e} {t} = go (runEnd listMost ns 1) refl
   where
-    last : {x y : ℕ} → RunTo 16500 ns 1 x → exactly ns more (runEnd 18500 ns x) ≡ At y → (b : Bool) → allNarrow (fromTo (x + 1) y ns) ≡ b → pick b (Both x y) Neither ≡ Both e t → TableTo ns more e t
+    last : {x y : ℕ} → RunTo listMost ns 1 x → exactly ns more (runEnd tableMost ns x) ≡ At y → (b : Bool) → allNarrow (fromTo (x + 1) y ns) ≡ b → pick b (Both x y) Neither ≡ Both e t → TableTo ns more e t
     last {x} {y} list at true narrow is =
         let same : x ≡ e = cc in
         let same' : y ≡ t = cc in
         rw (← same, ← same') (record { begun = list .begun; few = list .few; table = table-told ns more refl refl at; narrow = narrow })
     last list at false narrow is = never (cc)
 
-    next : {x : ℕ} → RunTo 16500 ns 1 x → (s : End) → exactly ns more (runEnd 18500 ns x) ≡ s → onEnd s (λ y. pick (allNarrow (fromTo (x + 1) y ns)) (Both x y) Neither) Neither ≡ Both e t → TableTo ns more e t
+    next : {x : ℕ} → RunTo listMost ns 1 x → (s : End) → exactly ns more (runEnd tableMost ns x) ≡ s → onEnd s (λ y. pick (allNarrow (fromTo (x + 1) y ns)) (Both x y) Neither) Neither ≡ Both e t → TableTo ns more e t
     next {x} list (At y) at is = last list at (allNarrow (fromTo (x + 1) y ns)) refl is
     next list Missing at is = never (cc)
 
-    go : (s : End) → runEnd 16500 ns 1 ≡ s
-        → onEnd s (λ x. onEnd (exactly ns more (runEnd 18500 ns x)) (λ y. pick (allNarrow (fromTo (x + 1) y ns)) (Both x y) Neither) Neither) Neither ≡ Both e t
+    go : (s : End) → runEnd listMost ns 1 ≡ s
+        → onEnd s (λ x. onEnd (exactly ns more (runEnd tableMost ns x)) (λ y. pick (allNarrow (fromTo (x + 1) y ns)) (Both x y) Neither) Neither) Neither ≡ Both e t
         → TableTo ns more e t
-    go (At x) at is = next (run-told 16500 ns 1 at) (exactly ns more (runEnd 18500 ns x)) refl is
+    go (At x) at is = next (run-told listMost ns 1 at) (exactly ns more (runEnd tableMost ns x)) refl is
     go Missing at is = never (cc)
 
 -- so the table's numbers and those that follow are as a call asks
@@ -180,7 +181,7 @@ tables-asked {ns} {more} {e} {t} {k} so is =
     }
 
 -- more numbers than a list, a table and what follows them may have
-pub tables-over : (ns : List ℕ) (more : ℕ) → 35003 + more < length ns → tableEnds ns more ≡ Neither
+pub tables-over : (ns : List ℕ) (more : ℕ) → 3 + listMost + tableMost + more < length ns → tableEnds ns more ≡ Neither
 tables-over ns more over = go (tableEnds ns more) refl
   where
     go : (x : Ends) → tableEnds ns more ≡ x → tableEnds ns more ≡ Neither

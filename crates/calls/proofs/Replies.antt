@@ -17,7 +17,8 @@ use lib.Seq.{take-add, take-all}
 use Rattle.ranges.proofs.Numbers.{never}
 use Rattle.text.specs.Cells.{fed}
 use Rattle.text.proofs.Puts.{put-no-byte, put-then}
-use Rattle.calls.specs.Few.{PutFew, answerMost}
+use Rattle.calls.specs.Limits.{answerMost}
+use Rattle.calls.specs.Few.{PutFew}
 use Rattle.calls.specs.Lines.{Heard, heardByte, lineIn}
 use Rattle.calls.specs.Answers.{answerSaid}
 use Rattle.calls.specs.Input.{saidFrom, leftFrom, lastSaid}

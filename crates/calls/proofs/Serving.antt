@@ -13,7 +13,8 @@ use Rattle.text.specs.Cells.{fed}
 use Rattle.text.proofs.Puts.{put-no-byte}
 use Rattle.calls.specs.Lines.{Heard, unheard, heardByte, lineIn}
 use Rattle.calls.specs.Answers.{answerSaid}
-use Rattle.calls.specs.Few.{PutFew, answerMost}
+use Rattle.calls.specs.Limits.{answerMost}
+use Rattle.calls.specs.Few.{PutFew}
 use Rattle.calls.specs.Serving.{servedOf, Served}
 use Rattle.calls.proofs.Few.{few-text}
 use Rattle.calls.proofs.Lent.{rest-long}

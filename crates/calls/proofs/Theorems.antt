@@ -14,6 +14,7 @@ use mathlib.Core.Path.{_≡_, _∙_}
 use lib.ListN.{length}
 use Rattle.text.specs.Cells.{fed}
 use Rattle.text.specs.Rows.{cellsIn}
+use Rattle.calls.specs.Limits.{lineRoom, nameRoom}
 use Rattle.calls.specs.Lines.{heard, unheard, heardByte}
 use Rattle.calls.specs.Answers.{answerTo, answerSaid}
 use Rattle.calls.specs.Input.{inputLines, inputSaid, piecesSaid}
@@ -21,7 +22,7 @@ use Rattle.calls.proofs.Hearing.{name-heard, words-answered}
 use Rattle.calls.proofs.Input.{pieces-whole, lines-on, lines-anew}
 
 -- whatever the runs for its name and its numbers hold at first, as long as they have 16 and 35,100 places
-pub line-is : (name numbers : List ℕ) → length name ≡ 16 → length numbers ≡ 35100 → (line : List ℕ)
+pub line-is : (name numbers : List ℕ) → length name ≡ nameRoom → length numbers ≡ lineRoom → (line : List ℕ)
     → answerSaid (fed heardByte (heard unheard name numbers) line) ≡ answerTo line
 line-is name numbers long many line = name-heard line 0 name numbers ∙ words-answered name numbers long many (cellsIn 32 line)
 

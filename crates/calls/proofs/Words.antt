@@ -11,6 +11,7 @@ use Rattle.ranges.specs.Blocks.{expandOf, runAfter}
 use Rattle.lists.specs.Rules.{Rules}
 use Rattle.sorting.specs.Build.{Built}
 use Rattle.text.specs.Texts.{bytes}
+use Rattle.calls.specs.Limits.{runMost}
 use Rattle.calls.specs.Few.{PutFew}
 use Rattle.calls.specs.Said.{allSpaced, countSaid, boundsSaid}
 use Rattle.calls.specs.Words.{badSaid, buildSaid, p2rSaid, expandedSaid, r2pSaid}
@@ -43,15 +44,15 @@ module _ (ns : List ℕ) where
   unfolding r2pSaid
   r2p-short lt = rw (lt-ltb (length ns) 4 lt)
 
-  pub r2p-long : 4 ≤ length ns → 200 < getD ns 3 0 → r2pSaid ns ≡ badSaid
+  pub r2p-long : 4 ≤ length ns → runMost < getD ns 3 0 → r2pSaid ns ≡ badSaid
   unfolding r2pSaid
-  r2p-long le lt = rw (le-ltb (length ns) 4 le, lt-ltb 200 (getD ns 3 0) lt)
+  r2p-long le lt = rw (le-ltb (length ns) 4 le, lt-ltb runMost (getD ns 3 0) lt)
 
-  pub r2p-cut : 4 ≤ length ns → getD ns 3 0 ≤ 200 → (length ns ≡ 4 + getD ns 3 0 → ⊥) → r2pSaid ns ≡ badSaid
+  pub r2p-cut : 4 ≤ length ns → getD ns 3 0 ≤ runMost → (length ns ≡ 4 + getD ns 3 0 → ⊥) → r2pSaid ns ≡ badSaid
   unfolding r2pSaid
-  r2p-cut le few ne = rw (le-ltb (length ns) 4 le, le-ltb 200 (getD ns 3 0) few, ne-eqb (length ns) (4 + getD ns 3 0) ne)
+  r2p-cut le few ne = rw (le-ltb (length ns) 4 le, le-ltb runMost (getD ns 3 0) few, ne-eqb (length ns) (4 + getD ns 3 0) ne)
 
-  pub r2p-call : 4 ≤ length ns → getD ns 3 0 ≤ 200 → length ns ≡ 4 + getD ns 3 0
+  pub r2p-call : 4 ≤ length ns → getD ns 3 0 ≤ runMost → length ns ≡ 4 + getD ns 3 0
       → r2pSaid ns ≡ expandedSaid (getD ns 2 0) (getD ns 0 0) (getD ns 1 0) (drop 4 ns)
   unfolding r2pSaid
-  r2p-call le few e = rw (le-ltb (length ns) 4 le, le-ltb 200 (getD ns 3 0) few, eq-eqb (length ns) (4 + getD ns 3 0) e)
+  r2p-call le few e = rw (le-ltb (length ns) 4 le, le-ltb runMost (getD ns 3 0) few, eq-eqb (length ns) (4 + getD ns 3 0) e)

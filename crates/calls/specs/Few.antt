@@ -1,3 +1,4 @@
+-- Scaffolding: only contracts of private functions cite this; nothing here has to be believed.
 -- Bytes put from a place on, of which there are at most so many.
 -- Assumes nothing: these are definitions.
 use Prim.Native.Nat.{ℕ, _≤_}
@@ -8,8 +9,3 @@ use Rattle.text.specs.Puts.{Put}
 pub record PutFew (most : ℕ) (out : List ℕ) (at : ℕ) (bs after : List ℕ) (next : ℕ) : Type 0 where
   pub puts : Put out at bs after next
   pub few : length bs ≤ most
-
--- what an answer has at most, its LF counted. A number with its blank has at most 21 bytes, an answer without a table or a run at
--- most 70, and a table has at most 18,500 numbers
-abbrev pub answerMost : ℕ
-answerMost = 388600

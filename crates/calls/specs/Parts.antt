@@ -9,7 +9,9 @@ use mathlib.Core.Bool.{Bool, true}
 use lib.Dec.{ltb, leb, eqb}
 use Rattle.ranges.specs.Numbers.{pick, all}
 use Rattle.lists.specs.declared.shape.Shape.{Shape}
-use Rattle.lists.specs.Rules.{Rules, listed}
+use Rattle.lists.specs.Headers.{headerLength}
+use Rattle.lists.specs.Rules.{Rules, shapeOf, listed}
+use Rattle.calls.specs.Limits.{listMost, tableMost}
 use Rattle.calls.specs.declared.part.End.{End}
 use Rattle.calls.specs.declared.part.End.the-variants.{At, Missing}
 use Rattle.calls.specs.declared.part.Ends.{Ends}
@@ -33,9 +35,9 @@ abbrev pub exactly : List ℕ → ℕ → End → End
 exactly ns more (At e) = pick (eqb (length ns) (e + more)) (At e) Missing
 exactly ns more Missing = Missing
 
--- where the list of D LIST ends, with exactly so many numbers more after it; a list has at most 16500 numbers
+-- where the list of D LIST ends, with exactly so many numbers more after it
 unfoldable pub listEnd : List ℕ → ℕ → End
-listEnd ns more = exactly ns more (runEnd 16500 ns 1)
+listEnd ns more = exactly ns more (runEnd listMost ns 1)
 
 -- what follows where a part ends, else the other
 abbrev pub onEnd : {A : Type 0} → End → (ℕ → A) → A → A
@@ -46,17 +48,17 @@ onEnd Missing next other = other
 unfoldable pub allNarrow : List ℕ → Bool
 allNarrow ns = all (length ns) (λ k. leb (getD ns k 0) 65535)
 
--- where the list and the table of D LIST TABLE end, with exactly so many numbers more after them; a table has at most
--- 18500 numbers, of 16 bits
+-- where the list and the table of D LIST TABLE end, with exactly so many numbers more after them; a table's numbers
+-- are of 16 bits
 unfoldable pub tableEnds : List ℕ → ℕ → Ends
 tableEnds ns more =
-    onEnd (runEnd 16500 ns 1)
-    (λ e. onEnd (exactly ns more (runEnd 18500 ns e)) (λ t. pick (allNarrow (fromTo (e + 1) t ns)) (Both e t) Neither) Neither)
+    onEnd (runEnd listMost ns 1)
+    (λ e. onEnd (exactly ns more (runEnd tableMost ns e)) (λ t. pick (allNarrow (fromTo (e + 1) t ns)) (Both e t) Neither) Neither)
     Neither
 
 -- what a call of a list and a table asks of its table's numbers and of those that follow
 pub record Tabled (numbers rest : List ℕ) (more : ℕ) : Type 0 where
-  pub few : length numbers ≤ 18500
+  pub few : length numbers ≤ tableMost
   pub narrow : allNarrow numbers ≡ true
   pub follow : length rest ≡ more
 
@@ -66,11 +68,11 @@ onEnds Neither next other = other
 
 -- D, and the list with it
 abbrev pub shapeIn : List ℕ → Shape
-shapeIn ns = record { d = getD ns 0 0 }
+shapeIn ns = shapeOf (getD ns 0 0)
 
 abbrev pub rulesTo : ℕ → List ℕ → Rules
 rulesTo e ns = listed (shapeIn ns) (fromTo 2 e ns)
 
 -- HEADER, from a place on
 abbrev pub headerAt : ℕ → List ℕ → List ℕ
-headerAt at ns = fromTo at (at + 8) ns
+headerAt at ns = fromTo at (at + headerLength) ns

@@ -1,3 +1,4 @@
+-- Scaffolding: only contracts of private functions cite this; nothing here has to be believed.
 -- What the program has heard and replied, said of the input's bytes (`specs/Input.antt`): the contracts of serving line by line.
 -- Assumes nothing: these are definitions.
 use Prim.Native.Nat.{ℕ, _+_, _≤_, _<_}
@@ -10,7 +11,7 @@ use Rattle.ranges.specs.Numbers.{pick}
 use Rattle.text.specs.Cells.{fed}
 use Rattle.text.specs.Puts.{Put}
 use Rattle.calls.specs.declared.line.Line.{Line}
-use Rattle.calls.specs.Few.{answerMost}
+use Rattle.calls.specs.Limits.{lineRoom, nameRoom, answerMost}
 use Rattle.calls.specs.Lines.{Heard, heard, unheard, heardByte}
 use Rattle.calls.specs.Input.{saidFrom, leftFrom, lastSaid}
 
@@ -18,8 +19,8 @@ use Rattle.calls.specs.Input.{saidFrom, leftFrom, lastSaid}
 pub record Hears (s : Heard) (soFar : List ℕ) : Type 0 where
   pub name : List ℕ
   pub numbers : List ℕ
-  pub name-long : length name ≡ 16
-  pub numbers-long : length numbers ≡ 35100
+  pub name-long : length name ≡ nameRoom
+  pub numbers-long : length numbers ≡ lineRoom
   pub is : s ≡ fed heardByte (heard unheard name numbers) soFar
 
 -- s is the line before these bytes and t the line after: what they answer is put, and what they leave of a line is heard

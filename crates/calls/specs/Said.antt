@@ -15,8 +15,8 @@ use Rattle.lookup.specs.declared.lookup.Looked.{Looked}
 use Rattle.lookup.specs.declared.lookup.Looked.the-variants.{Rule as Found, Nothing as NotFound, Refused as NoLook}
 use Rattle.sorting.specs.declared.audit.Verdict.{Verdict}
 use Rattle.sorting.specs.declared.audit.Verdict.the-variants.{Yes, No, Refused as NoVerdict}
-use Rattle.sorting.specs.declared.report.Part.{Part}
-use Rattle.sorting.specs.declared.report.Part.the-variants.{Is as PartIs, Refused as NoPart}
+use Rattle.tables.specs.declared.report.Part.{Part}
+use Rattle.tables.specs.declared.report.Part.the-variants.{Is as PartIs, Refused as NoPart}
 use Rattle.text.specs.Texts.{bytes}
 use Rattle.text.specs.Decimals.{decimalOf}
 

@@ -1,3 +1,4 @@
+-- Scaffolding: only contracts of private functions cite this; nothing here has to be believed.
 -- Serving bytes up to the end of the present line, or all where it does not end in them.
 -- Assumes nothing: these are definitions.
 use Prim.Native.Nat.{ℕ, _+_, _<_}
@@ -8,7 +9,8 @@ use lib.ListN.{length, take}
 use lib.Dec.{ltb}
 use Rattle.ranges.specs.Numbers.{pick}
 use Rattle.text.specs.Cells.{fed}
-use Rattle.calls.specs.Few.{PutFew, answerMost}
+use Rattle.calls.specs.Limits.{answerMost}
+use Rattle.calls.specs.Few.{PutFew}
 use Rattle.calls.specs.Lines.{Heard, unheard, heardByte, lineIn}
 use Rattle.calls.specs.Answers.{answerSaid}
 

@@ -8,14 +8,16 @@ use lib.Dec.{ltb, eqb}
 use Rattle.ranges.specs.Numbers.{pick}
 use Rattle.ranges.specs.Prefixes.{boundsOf}
 use Rattle.ranges.specs.Blocks.{expandOf, runAfter}
+use Rattle.lists.specs.Headers.{headerLength}
 use Rattle.lists.specs.Check.{checkOf}
 use Rattle.lists.specs.Scan.{scanOf}
 use Rattle.lists.specs.Independence.{independenceOf}
 use Rattle.sorting.specs.Build.{buildOf, tableAfter, auditOf}
-use Rattle.sorting.specs.Report.{reportOf}
+use Rattle.tables.specs.Report.{reportOf}
 use Rattle.lookup.specs.Lookup.{lookupOf}
 use Rattle.lists.specs.Rules.{Rules}
 use Rattle.text.specs.Texts.{bytes}
+use Rattle.calls.specs.Limits.{runMost}
 use Rattle.calls.specs.Said.{allSpaced, countSaid, boundsSaid, matchSaid, pairSaid, foundSaid, verdictSaid, partSaid}
 use Rattle.calls.specs.Parts.{fromTo, listEnd, onEnd, tableEnds, onEnds, rulesTo, headerAt}
 use Rattle.calls.specs.declared.word.TableWord.{TableWord}
@@ -31,7 +33,7 @@ checkSaid ns = onEnd (listEnd ns 0) (λ e. countSaid (checkOf (rulesTo e ns))) b
 
 -- scan D LIST HEADER
 abbrev pub scanSaid : List ℕ → List ℕ
-scanSaid ns = onEnd (listEnd ns 8) (λ e. matchSaid (scanOf (rulesTo e ns) (headerAt e ns))) badSaid
+scanSaid ns = onEnd (listEnd ns headerLength) (λ e. matchSaid (scanOf (rulesTo e ns) (headerAt e ns))) badSaid
 
 -- independent D LIST
 abbrev pub independentSaid : List ℕ → List ℕ
@@ -41,7 +43,7 @@ independentSaid ns = onEnd (listEnd ns 0) (λ e. pairSaid (independenceOf (rules
 -- how many numbers follow the table
 abbrev pub following : TableWord → ℕ
 following Build = 0
-following Lookup = 8
+following Lookup = headerLength
 following Audit = 0
 following Report = 1
 
@@ -83,6 +85,6 @@ expandedSaid width low high run = countSaid (expandOf width low high run) ++ byt
 unfoldable pub r2pSaid : List ℕ → List ℕ
 r2pSaid ns =
     pick (ltb (length ns) 4) badSaid
-    (pick (ltb 200 (getD ns 3 0)) badSaid
+    (pick (ltb runMost (getD ns 3 0)) badSaid
     (pick (eqb (length ns) (4 + getD ns 3 0)) (expandedSaid (getD ns 2 0) (getD ns 0 0) (getD ns 1 0) (drop 4 ns))
     badSaid))

@@ -13,7 +13,8 @@ use text::put::put_byte;
 use text::row::row_next;
 ghost use Prim.Native.Nat.{_-_};
 ghost use mathlib.Core.List.{[], _∷_, _++_};
-ghost use Rattle.calls.specs.Few.{PutFew, answerMost};
+ghost use Rattle.calls.specs.Limits.{answerMost};
+ghost use Rattle.calls.specs.Few.{PutFew};
 ghost use Rattle.calls.specs.Lines.{heard};
 ghost use Rattle.calls.specs.Answers.{wordSaid, answerSaid};
 

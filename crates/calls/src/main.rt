@@ -14,7 +14,7 @@
 //     anything else                bad
 //
 // Words are parted by single blanks, and LF ends a line; what follows the last LF, if anything, is a line too. LIST, TABLE
-// and RUN are a length, at most 16500, 18500 and 200, and then that many numbers; HEADER is eight numbers. Numbers are
+// and RUN are a length, at most 16,500, 18,500 and 200, and then that many numbers; HEADER is eight numbers. Numbers are
 // plain decimals without leading zeros, 0 to 4294967295, those of a table to 65535.
 //
 // A line may be of any length and may come in pieces: it is heard byte by byte (`line`), its numbers go to a lent run,
@@ -23,6 +23,7 @@
 // the library, and puts the answer's text (`say`) into the run of bytes that is written out. So input comes to answers
 // on slices, and that is proved (`reply`); only `read` and `write` are the system's (`serve`).
 mod answer;
+mod limits;
 mod line;
 mod list_words;
 mod part;
@@ -33,12 +34,15 @@ mod serve;
 mod table_words;
 mod word;
 
+use limits::LINE_ROOM;
+use limits::NAME_ROOM;
+use limits::OUT_ROOM;
 use serve::serve_all;
 
 fn main() {
     let mut bytes = io::large_buffer();
-    let mut name = [0u8; 16];
-    let mut numbers = [0u32; 35100];
-    let mut out = [0u8; 400000];
+    let mut name = [0u8; NAME_ROOM];
+    let mut numbers = [0u32; LINE_ROOM];
+    let mut out = [0u8; OUT_ROOM];
     serve_all(&mut bytes, &mut name, &mut numbers, &mut out);
 }

@@ -1,6 +1,9 @@
 // The parts of a line's numbers, by their places: D is the first; LIST, TABLE and RUN are a length and then that many
 // numbers; HEADER is eight numbers.
+use crate::limits::LIST_MOST;
+use crate::limits::TABLE_MOST;
 use lists::shape::Shape;
+use lists::shape::shape_of;
 ghost use mathlib.Core.Bool.{true};
 ghost use mathlib.Core.Path.{_≡_};
 ghost use Prim.Native.Nat.{_<_};
@@ -50,7 +53,7 @@ pub fn exact(end: End, given: &[u32], more: usize) -> End
 pub fn list_end(given: &[u32], more: usize) -> End
     ensures { λ r. ⌜ r ≡ listEnd (now (given .entry)) more ⌝ }
 {
-    let end = run_end(16500, given, 1);
+    let end = run_end(LIST_MOST, given, 1);
     exact(end, given, more)
 }
 
@@ -78,11 +81,11 @@ fn all_narrow(numbers: &[u32]) -> bool
 pub fn table_ends(given: &[u32], more: usize) -> Ends
     ensures { λ r. ⌜ r ≡ tableEnds (now (given .entry)) more ⌝ }
 {
-    let first = run_end(16500, given, 1);
+    let first = run_end(LIST_MOST, given, 1);
     let End::At(e) = first else {
         return Ends::Missing;
     };
-    let second = exact(run_end(18500, given, e), given, more);
+    let second = exact(run_end(TABLE_MOST, given, e), given, more);
     let End::At(t) = second else {
         return Ends::Missing;
     };
@@ -111,9 +114,7 @@ pub(crate) fn shape_in(given: &[u32]) -> Shape
     requires { ⌜ 0 < length (now given) ⌝ }
     ensures { λ r. ⌜ r ≡ shapeIn (now (given .entry)) ⌝ }
 {
-    Shape {
-        d: given[0] as usize,
-    }
+    shape_of(given[0] as usize)
 }
 
 // Gives the eight numbers of HEADER by value.

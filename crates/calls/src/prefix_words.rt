@@ -1,4 +1,5 @@
 // The calls of prefixes and ranges. `given` holds the line's numbers after the word.
+use crate::limits::RUN_MOST;
 use crate::say::put_all;
 use crate::say::put_bad;
 use crate::say::put_bounds;
@@ -8,7 +9,8 @@ use ranges::prefix::prefix_to_range;
 use text::put::put_text;
 ghost use Prim.Native.Nat.{_+_, _-_, _*_};
 ghost use lib.ListN.{length};
-ghost use Rattle.calls.specs.Few.{PutFew, answerMost};
+ghost use Rattle.calls.specs.Limits.{answerMost};
+ghost use Rattle.calls.specs.Few.{PutFew};
 ghost use Rattle.calls.specs.Words.{p2rSaid, expandedSaid, r2pSaid};
 
 // p2r VALUE LENGTH WIDTH: puts the prefix's low and high end, or the refusal.
@@ -47,7 +49,7 @@ pub fn call_r2p(given: &mut [u32], out: &mut [u8], at: usize) -> usize
         return put_bad(out, at);
     }
     let k = given[3] as usize;
-    if 200 < k {
+    if RUN_MOST < k {
         return put_bad(out, at);
     }
     if given.len() != 4 + k {

@@ -1,5 +1,6 @@
 // Lines in, answers out, on slices: bytes are heard, and where a line ends in them its answer is put.
 use crate::answer::answer;
+use crate::limits::ANSWER_MOST;
 use crate::line::Line;
 use crate::line::hear;
 use crate::line::line_in;
@@ -48,14 +49,14 @@ fn serve_line(
     }
 }
 
-// Says whether there is room for one more answer after a place: none has more than 388,600 bytes, its LF among them.
+// Says whether there is room for one more answer after a place.
 fn has_room(out: &[u8], at: usize) -> bool
     ensures { λ r. ⌜ r ≡ roomAt (length (now (out .entry))) at ⌝ }
 {
     if out.len() < at {
         return false;
     }
-    if out.len() - at < 388600 {
+    if out.len() - at < ANSWER_MOST {
         return false;
     }
     true

@@ -7,7 +7,7 @@ use ranges::prefix::Bounds;
 use ranges::refusal::Count;
 use ranges::refusal::Refusal;
 use sorting::audit::Verdict;
-use sorting::report::Part;
+use tables::report::Part;
 use text::put::put_byte;
 use text::put::put_number;
 use text::put::put_text;

@@ -1,4 +1,5 @@
 // The calls of a list and a table. `given` holds the line's numbers after the word: D LIST TABLE, and what follows.
+use crate::limits::TABLE_MOST;
 use crate::part::Ends;
 use crate::part::header_of;
 use crate::part::narrow;
@@ -15,13 +16,14 @@ use lists::shape::Shape;
 use lookup::lookup::lookup;
 use sorting::audit::audit;
 use sorting::build::build;
-use sorting::report::report;
+use tables::report::report;
 use text::put::put_text;
 ghost use Prim.Native.Nat.{_+_, _-_, _*_};
 ghost use mathlib.Core.Path.{_≡_};
 ghost use lib.ListN.{length};
 ghost use Rattle.lists.specs.Rules.{listed};
-ghost use Rattle.calls.specs.Few.{PutFew, answerMost};
+ghost use Rattle.calls.specs.Limits.{answerMost};
+ghost use Rattle.calls.specs.Few.{PutFew};
 ghost use Rattle.calls.specs.Parts.{Tabled};
 ghost use Rattle.calls.specs.Words.{following, buildSaid, lookupSaid, auditSaid, reportSaid, tableSaid, tabledSaid};
 
@@ -125,7 +127,7 @@ fn put_tabled(
     ensures { λ r.
         ⌜ PutFew (76 + 21 * length (now (numbers .entry))) (now (out .entry)) at (tableSaid word (listed shape (now (list .entry))) (now (numbers .entry)) (now (rest .entry))) (now (out .exit)) r ⌝ }
 {
-    let mut table = [0u16; 18500];
+    let mut table = [0u16; TABLE_MOST];
     let m = numbers.len();
     narrow(numbers, &mut table[..m]);
     put_with(word, shape, list, &mut table[..m], rest, out, at)

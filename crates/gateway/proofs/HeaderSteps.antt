@@ -15,7 +15,7 @@ use lib.ListN.{length, getD, take, set, replicate, replicate-append-replicate}
 use lib.Seq.{take-suc-set}
 use Rattle.lists.specs.Rules.{Rules, fieldsOf}
 use Rattle.lookup.specs.Lookup.{lookupOf}
-use Rattle.lookup.specs.Bounds.{zeros}
+use Rattle.lists.specs.Headers.{headerLength, zeros}
 use Rattle.text.specs.Rows.{readByte}
 use Rattle.text.specs.declared.row.Row.{Row}
 use Rattle.gateway.specs.Said.{refusedSaid, lookedSaid}
@@ -24,11 +24,11 @@ use Rattle.gateway.specs.HeaderBytes.{headersNow, headerLine, headerStat
 use Rattle.gateway.specs.declared.headers.Headers.{Headers}
 
 -- ---- a header's eight numbers
-pub eight-few : (xs : List ℕ) → length xs < 8 → zeros ≡ eightOf xs
+pub eight-few : (xs : List ℕ) → length xs < headerLength → zeros ≡ eightOf xs
 unfolding eightOf
-eight-few xs lt = rw (lt-ltb (length xs) 8 lt)
+eight-few xs lt = rw (lt-ltb (length xs) headerLength lt)
 
-taken : (xs : List ℕ) → 8 ≤ length xs
+taken : (xs : List ℕ) → headerLength ≤ length xs
     → getD xs 0 0 ∷ getD xs 1 0 ∷ getD xs 2 0 ∷ getD xs 3 0 ∷ getD xs 4 0 ∷ getD xs 5 0 ∷ getD xs 6 0 ∷ getD xs 7 0 ∷ [] ≡ take 8 xs
 taken [] le = absurd (omega arith)
 taken (a ∷ []) le = absurd (omega arith)
@@ -40,10 +40,10 @@ taken (a ∷ b ∷ c ∷ d ∷ e ∷ f ∷ []) le = absurd (omega arith)
 taken (a ∷ b ∷ c ∷ d ∷ e ∷ f ∷ g ∷ []) le = absurd (omega arith)
 taken (a ∷ b ∷ c ∷ d ∷ e ∷ f ∷ g ∷ h ∷ xs) le = refl
 
-pub eight-all : (xs : List ℕ) → 8 ≤ length xs
+pub eight-all : (xs : List ℕ) → headerLength ≤ length xs
     → getD xs 0 0 ∷ getD xs 1 0 ∷ getD xs 2 0 ∷ getD xs 3 0 ∷ getD xs 4 0 ∷ getD xs 5 0 ∷ getD xs 6 0 ∷ getD xs 7 0 ∷ [] ≡ eightOf xs
 unfolding eightOf
-eight-all xs le = rw (le-ltb (length xs) 8 le) (taken xs le)
+eight-all xs le = rw (le-ltb (length xs) headerLength le) (taken xs le)
 
 -- ---- a header cleared number by number
 pub cleared-more : (xs : List ℕ) (i : ℕ) → i < length xs → take i xs ≡ replicate i 0 → take (i + 1) (set xs i 0) ≡ replicate (i + 1) 0

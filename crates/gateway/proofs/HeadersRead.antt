@@ -15,7 +15,7 @@ use lib.Seq.{sets, sets-eq, take-append-add}
 use Rattle.ranges.specs.Numbers.{pick}
 use Rattle.lists.specs.Rules.{Rules, fieldsOf}
 use Rattle.lookup.specs.Lookup.{lookupOf}
-use Rattle.lookup.specs.Bounds.{zeros}
+use Rattle.lists.specs.Headers.{headerLength, zeros}
 use Rattle.text.specs.Cells.{fed}
 use Rattle.text.specs.Rows.{fresh, allNumbers, valuesOf, Reading, begin, ended, readByte, readCells}
 use Rattle.text.proofs.Rows.{row-is}
@@ -46,19 +46,19 @@ zeros-take (suc k) zero le = absurd (omega arith)
 zeros-take (suc k) (suc n) le = ap (λ l. 0 ∷ l) (zeros-take k n (omega arith))
 
 -- at most eight numbers and zeros past them, put into zeros or taken from the front of both
-front : (ns : List ℕ) → length ns ≤ 8 → sets zeros 0 ns ≡ take 8 (ns ++ zeros)
+front : (ns : List ℕ) → length ns ≤ headerLength → sets zeros 0 ns ≡ take headerLength (ns ++ zeros)
 front ns few =
     let fits : 0 + length ns ≤ length zeros = omega arith in
-    let eight : length ns + (8 - length ns) ≡ 8 = omega arith in
-    let rest : take (8 - length ns) zeros ≡ replicate (8 - length ns) 0 = zeros-take (8 - length ns) 8 (omega arith) in
+    let eight : length ns + (headerLength - length ns) ≡ headerLength = omega arith in
+    let rest : take (headerLength - length ns) zeros ≡ replicate (headerLength - length ns) 0 = zeros-take (headerLength - length ns) headerLength (omega arith) in
     let same : 0 + length ns ≡ length ns = omega arith in
     sets-eq ns zeros 0 fits
     ∙ ap (λ j. ns ++ drop j zeros) same
-    ∙ ap (λ l. ns ++ l) (zeros-drop (length ns) 8 few ∙ sym rest)
-    ∙ sym (take-append-add ns zeros (8 - length ns))
+    ∙ ap (λ l. ns ++ l) (zeros-drop (length ns) headerLength few ∙ sym rest)
+    ∙ sym (take-append-add ns zeros (headerLength - length ns))
     ∙ ap (λ j. take j (ns ++ zeros)) eight
 
-module _ (R : Rules) (T : List ℕ) (narrow : fieldsOf R ≤ 8) where
+module _ (R : Rules) (T : List ℕ) (narrow : fieldsOf R ≤ headerLength) where
   -- the row and the header of a line's cells, read into zeros
   abbrev cellsRead : List (List ℕ) → Reading
   cellsRead cs = readCells 0 (begin zeros) cs
@@ -75,8 +75,8 @@ module _ (R : Rules) (T : List ℕ) (narrow : fieldsOf R ≤ 8) where
 
       run : allNumbers cs ≡ true → length cs ≡ fieldsOf R → cellsRead cs .run ≡ headerOf cs
       run all is =
-          let few : length cs ≤ 8 = omega arith in
-          let short : length (valuesOf cs) ≤ 8 = omega (arith, values-length cs) in
+          let few : length cs ≤ headerLength = omega arith in
+          let short : length (valuesOf cs) ≤ headerLength = omega (arith, values-length cs) in
           cells-run cs 0 (begin zeros) all (omega arith) ∙ front (valuesOf cs) short
 
       go : (s t : Bool) → allNumbers cs ≡ s → eqb (length cs) (fieldsOf R) ≡ t

@@ -15,19 +15,20 @@ use lib.Dec.{eqb, leb, ltb}
 use lib.ListN.{length}
 use lib.Seq.{sets}
 use Rattle.ranges.specs.Numbers.{pick}
+use Rattle.lists.specs.Limits.{mostRules}
 use Rattle.text.specs.Cells.{fed}
 use Rattle.text.specs.declared.row.Row.{Row}
 use Rattle.text.specs.Rows.{fresh, rowNext, keptAt, allNumbers, valuesOf, manyMore, Reading, begin, ended, readByte, readCells}
 use Rattle.text.proofs.Rows.{row-is}
 use Rattle.text.proofs.Counted.{cells-good, cells-count, cells-run, many-few, many-large, many-parity, many-same}
 use Rattle.gateway.specs.Files.{lastLine, overLines}
-use Rattle.gateway.specs.RuleLines.{cellsOf, widthFault, cellsFault, ownFault}
+use Rattle.gateway.specs.RuleLines.{cellsOf, mostCells, widthFault, cellsFault, ownFault}
 use Rattle.gateway.specs.RuleBytes.{rulesNow, ruleState, faultedBy, judgedBy, rulesWithin, rulesJudged, rulesByte, rulesClose, rulesBegun}
-use Rattle.gateway.specs.declared.rules.Rules.{Rules}
+use Rattle.gateway.specs.declared.rules.RulesSoFar.{RulesSoFar}
 use Rattle.gateway.proofs.RuleSteps.{Fine, fine-line, judged-fault, judged-fine, rules-byte-stays, rules-byte-many, rules-byte-reads, rules-close-stays, rules-close-many, rules-close-judged}
 
 -- ---- after a fault
-module _ (r : Rules) (some : r .fault ≡ 0 → ⊥) where
+module _ (r : RulesSoFar) (some : r .fault ≡ 0 → ⊥) where
   bytes-stay : (l : List ℕ) (list : List ℕ) → fed rulesByte (rulesNow r list) l ≡ rulesNow r list
   bytes-stay [] list = refl
   bytes-stay (b ∷ l) list = ap (λ x. fed rulesByte x l) (sym (rules-byte-stays r list b some)) ∙ bytes-stay l list
@@ -48,16 +49,16 @@ module _ (r : Rules) (some : r .fault ≡ 0 → ⊥) where
   lines-stay (l ∷ ls) list = ap (λ x. overLines rulesByte rulesClose rulesBegun x ls) (line-stays l list) ∙ lines-stay ls list
 
 -- ---- past line 1,024: 3, whatever stands on it
-module _ (r : Rules) (none : r .fault ≡ 0) (many : 1024 ≤ r .lines) where
+module _ (r : RulesSoFar) (none : r .fault ≡ 0) (many : mostRules ≤ r .lines) where
   pub line-many : (l list : List ℕ) → rulesClose (fed rulesByte (rulesNow r list) l) ≡ rulesNow (faultedBy r 3) list
   line-many [] list = sym (rules-close-many r list none many)
   line-many (b ∷ l) list =
       ap (λ x. rulesClose (fed rulesByte x l)) (sym (rules-byte-many r list none b many)) ∙ line-stays (faultedBy r 3) (λ e. omega arith) l list
 
 -- ---- a line's bytes
-module _ (i w : ℕ) (few : i < 1024) where
+module _ (i w : ℕ) (few : i < mostRules) where
   -- within line i, w cells a line
-  abbrev inLine : Bool → Row → Rules
+  abbrev inLine : Bool → Row → RulesSoFar
   inLine g row = ruleState g row i w 0
 
   judged-alike : (g : Bool) (row last : Row) → judgedBy (inLine g row) last ≡ judgedBy (inLine false fresh) last
@@ -87,7 +88,7 @@ unfolding widthFault
 width-count cs = go (leb (length cs) 65536) refl
   where
     go : (t : Bool) → leb (length cs) 65536 ≡ t
-        → _≡_ {A = ℕ} (pick (eqb (manyMore 0 cs % 2) 1) 8 (pick (ltb 16 (manyMore 0 cs)) 1 0)) (pick (eqb (length cs % 2) 1) 8 (pick (ltb 16 (length cs)) 1 0))
+        → _≡_ {A = ℕ} (pick (eqb (manyMore 0 cs % 2) 1) 8 (pick (ltb mostCells (manyMore 0 cs)) 1 0)) (pick (eqb (length cs % 2) 1) 8 (pick (ltb mostCells (length cs)) 1 0))
     go true e =
         let few = leb-true (length cs) 65536 e in
         let same : manyMore 0 cs ≡ length cs = omega (arith, many-few cs 0 (omega arith)) in
@@ -97,18 +98,18 @@ width-count cs = go (leb (length cs) 65536) refl
         let large : 65535 ≤ manyMore 0 cs = many-large cs 0 (omega arith) (omega arith) in
         let zero-in : 0 + length cs ≡ length cs = omega arith in
         let parity : manyMore 0 cs % 2 ≡ length cs % 2 = many-parity cs 0 (omega arith) ∙ ap (λ k. k % 2) zero-in in
-        let wide : 16 < manyMore 0 cs = omega arith in
-        let wide' : 16 < length cs = omega arith in
-        rw (parity, lt-ltb 16 (manyMore 0 cs) wide, lt-ltb 16 (length cs) wide')
+        let wide : mostCells < manyMore 0 cs = omega arith in
+        let wide' : mostCells < length cs = omega arith in
+        rw (parity, lt-ltb mostCells (manyMore 0 cs) wide, lt-ltb mostCells (length cs) wide')
 
-fault-count : (i w : ℕ) (cs : List (List ℕ)) → w ≤ 16 → cellsFault i w (allNumbers cs) (manyMore 0 cs) ≡ cellsFault i w (allNumbers cs) (length cs)
+fault-count : (i w : ℕ) (cs : List (List ℕ)) → w ≤ mostCells → cellsFault i w (allNumbers cs) (manyMore 0 cs) ≡ cellsFault i w (allNumbers cs) (length cs)
 unfolding cellsFault
 fault-count i w cs le =
     let small : w < 65535 = omega arith in
     rw (width-count cs, many-same cs w small)
 
 -- ---- a whole line, judged
-module _ (i w : ℕ) (few : i < 1024) (narrow : w ≤ 16) (l list : List ℕ) where
+module _ (i w : ℕ) (few : i < mostRules) (narrow : w ≤ mostCells) (l list : List ℕ) where
   abbrev readTo : Reading
   readTo = readCells (i * w) (begin list) (cellsOf l)
 
@@ -128,10 +129,10 @@ module _ (i w : ℕ) (few : i < 1024) (narrow : w ≤ 16) (l list : List ℕ) wh
     pub line-is-fine : Fine i w (allNumbers (cellsOf l)) (length (cellsOf l))
     line-is-fine = fine-line i w (allNumbers (cellsOf l)) (length (cellsOf l)) none
 
-    pub line-short : length (cellsOf l) ≤ 16
+    pub line-short : length (cellsOf l) ≤ mostCells
     line-short = go (eqb i 0) refl
       where
-        go : (t : Bool) → eqb i 0 ≡ t → length (cellsOf l) ≤ 16
+        go : (t : Bool) → eqb i 0 ≡ t → length (cellsOf l) ≤ mostCells
         go true e = line-is-fine .first (eqb-true i 0 e) .1
         go false e = let same = line-is-fine .later (eqb-false i 0 e) in omega arith
 

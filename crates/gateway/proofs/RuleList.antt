@@ -13,13 +13,14 @@ use borrow.Author.Tests.{eq-eqb, ne-eqb, eqb-true, eqb-false, le-leb, lt-leb, le
 use lib.Dec.{eqb, leb}
 use lib.ListN.{length, take, drop, length-append}
 use lib.Seq.{sets, sets-eq, length-sets, take-at, length-take-le}
+use Rattle.lists.specs.Limits.{mostNumbers, mostRules}
 use Rattle.text.specs.Cells.{fed}
 use Rattle.text.specs.Rows.{fresh, valuesOf, begin, readCells}
 use Rattle.text.proofs.Counted.{values-length}
 use Rattle.gateway.specs.Files.{lastLine, overLines}
-use Rattle.gateway.specs.RuleLines.{cellsOf, firstFault, cellsFault, ownFault, lineFault, linesFault, listOf}
+use Rattle.gateway.specs.RuleLines.{cellsOf, mostCells, firstFault, cellsFault, ownFault, lineFault, linesFault, listOf}
 use Rattle.gateway.specs.RuleBytes.{RulesNow, rulesNow, ruleState, faultedBy, rulesByte, rulesClose, rulesBegun}
-use Rattle.gateway.specs.declared.rules.Rules.{Rules}
+use Rattle.gateway.specs.declared.rules.RulesSoFar.{RulesSoFar}
 use Rattle.gateway.proofs.RuleLine.{lines-stay, line-many, line-faulty, line-is-fine, line-short, line-fine}
 
 -- ---- the first of two faults
@@ -35,8 +36,8 @@ pub record Stood (w i : ℕ) (acc : List ℕ) (ls : List (List ℕ)) (y : RulesN
   pub lines : y .rules .lines ≡ i + length ls
   pub width : y .rules .width ≡ w
   pub numbers : take ((i + length ls) * w) (y .list) ≡ acc ++ listOf ls
-  pub long : length (y .list) ≡ 16384
-  pub few : i + length ls ≤ 1024
+  pub long : length (y .list) ≡ mostNumbers
+  pub few : i + length ls ≤ mostRules
 
 -- the first fault, and where there is none all numbers
 pub record Come (w i : ℕ) (acc : List ℕ) (ls : List (List ℕ)) (y : RulesNow) : Type 0 where
@@ -47,7 +48,7 @@ abbrev readOn : RulesNow → List (List ℕ) → RulesNow
 readOn x ls = overLines rulesByte rulesClose rulesBegun x ls
 
 -- rules with a fault, before more lines
-come-faulty : (w i : ℕ) (acc : List ℕ) (l : List ℕ) (ls : List (List ℕ)) (r : Rules) (list : List ℕ) → (r .fault ≡ 0 → ⊥) → linesFault i w (l ∷ ls) ≡ r .fault
+come-faulty : (w i : ℕ) (acc : List ℕ) (l : List ℕ) (ls : List (List ℕ)) (r : RulesSoFar) (list : List ℕ) → (r .fault ≡ 0 → ⊥) → linesFault i w (l ∷ ls) ≡ r .fault
     → Come w i acc (l ∷ ls) (rulesNow r list)
 come-faulty w i acc l ls r list some is = record { fault = sym is; stood = λ e. absurd (some (sym is ∙ e)) }
 
@@ -79,19 +80,19 @@ module _ (w i v : ℕ) (acc l : List ℕ) (ls : List (List ℕ)) (list : List �
   lineOn = readOn (rulesClose (fed rulesByte (rulesNow (ruleState false fresh i v 0) list) l)) ls
 
   -- past line 1,024
-  come-many : 1024 ≤ i → Come w i acc (l ∷ ls) lineOn
+  come-many : mostRules ≤ i → Come w i acc (l ∷ ls) lineOn
   come-many many =
       let r = faultedBy (ruleState false fresh i v 0) 3 in
       let some : r .fault ≡ 0 → ⊥ = λ e. omega arith in
       let stays : lineOn ≡ rulesNow r list
       = ap (λ x. readOn x ls) (line-many (ruleState false fresh i v 0) refl many l list) ∙ lines-stay r some ls list in
-      let is : lineFault i w l ≡ 3 = rw (le-leb 1024 i many) in
+      let is : lineFault i w l ≡ 3 = rw (le-leb mostRules i many) in
       let first : linesFault i w (l ∷ ls) ≡ 3 = ap (λ f. firstFault f (linesFault (i + 1) w ls)) is in
       subst (Come w i acc (l ∷ ls)) (sym stays) (come-faulty w i acc l ls r list some first)
 
-  module _ (few : i < 1024) (narrow : v ≤ 16) (same : ownFault i w l ≡ ownFault i v l) where
+  module _ (few : i < mostRules) (narrow : v ≤ mostCells) (same : ownFault i w l ≡ ownFault i v l) where
     fault-here : lineFault i w l ≡ ownFault i v l
-    fault-here = rw (lt-leb 1024 i few) same
+    fault-here = rw (lt-leb mostRules i few) same
 
     -- a line with a fault
     come-bad : (ownFault i v l ≡ 0 → ⊥) → Come w i acc (l ∷ ls) lineOn
@@ -114,10 +115,10 @@ module _ (w i v : ℕ) (acc l : List ℕ) (ls : List (List ℕ)) (list : List �
         subst (Come w i acc (l ∷ ls)) (sym goes) (come-fine w i acc l ls _ (fault-here ∙ none) rest)
 
 -- a line's numbers stand after those of the i lines before it
-taken-line : (i w : ℕ) (list ns : List ℕ) → i < 1024 → w ≤ 16 → length list ≡ 16384 → length ns ≡ w → take ((i + 1) * w) (sets list (i * w) ns) ≡ take (i * w) list ++ ns
+taken-line : (i w : ℕ) (list ns : List ℕ) → i < mostRules → w ≤ mostCells → length list ≡ mostNumbers → length ns ≡ w → take ((i + 1) * w) (sets list (i * w) ns) ≡ take (i * w) list ++ ns
 taken-line i w list ns few narrow long size =
-    let next : i + 1 ≤ 1024 = omega arith in
-    let product : (i + 1) * w ≤ 1024 * 16 = mul-le-mul next narrow in
+    let next : i + 1 ≤ mostRules = omega arith in
+    let product : (i + 1) * w ≤ mostRules * mostCells = mul-le-mul next narrow in
     let more : (i + 1) * w ≡ i * w + w = omega arith in
     let fits : i * w + length ns ≤ length list = omega arith in
     let before : i * w ≤ length list = omega arith in
@@ -125,11 +126,11 @@ taken-line i w list ns few narrow long size =
     ap (take ((i + 1) * w)) (sets-eq ns list (i * w) fits) ∙ take-at (take (i * w) list ++ ns) (drop (i * w + length ns) list) ((i + 1) * w) front
 
 -- ---- lines after the first
-module _ (w : ℕ) (narrow : w ≤ 16) where
+module _ (w : ℕ) (narrow : w ≤ mostCells) where
   -- what is to be shown of lines
   abbrev Claim : List (List ℕ) → Type 0
   Claim ls =
-      (i : ℕ) (list : List ℕ) → 1 ≤ i → i ≤ 1024 → length list ≡ 16384 → Come w i (take (i * w) list) ls (readOn (rulesNow (ruleState false fresh i w 0) list) ls)
+      (i : ℕ) (list : List ℕ) → 1 ≤ i → i ≤ mostRules → length list ≡ mostNumbers → Come w i (take (i * w) list) ls (readOn (rulesNow (ruleState false fresh i w 0) list) ls)
 
   no-lines : Claim []
   unfolding lastLine
@@ -148,25 +149,25 @@ module _ (w : ℕ) (narrow : w ≤ 16) where
       }
 
   one-line : (l : List ℕ) (ls : List (List ℕ)) → Claim ls → Claim (l ∷ ls)
-  one-line l ls follow i list some le size = by-count (leb 1024 i) refl
+  one-line l ls follow i list some le size = by-count (leb mostRules i) refl
     where
-      by-fault : i < 1024 → (t : Bool) → eqb (ownFault i w l) 0 ≡ t → Come w i (take (i * w) list) (l ∷ ls) (lineOn w i w (take (i * w) list) l ls list)
+      by-fault : i < mostRules → (t : Bool) → eqb (ownFault i w l) 0 ≡ t → Come w i (take (i * w) list) (l ∷ ls) (lineOn w i w (take (i * w) list) l ls list)
       by-fault few false e = come-bad w i w (take (i * w) list) l ls list few narrow refl (eqb-false (ownFault i w l) 0 e)
       by-fault few true e =
           let none = eqb-true (ownFault i w l) 0 e in
           let same : length (cellsOf l) ≡ w = line-is-fine i w few narrow l list none .later (λ z. omega arith) in
           let ns = valuesOf (cellsOf l) in
           let left = sets list (i * w) ns in
-          let kept : length left ≡ 16384 = length-sets list (i * w) ns ∙ size in
+          let kept : length left ≡ mostNumbers = length-sets list (i * w) ns ∙ size in
           let taken = taken-line i w list ns few narrow size (values-length (cellsOf l) ∙ same) in
           let rest = follow (i + 1) left (omega arith) (omega arith) kept in
           come-good w i w (take (i * w) list) l ls list few narrow refl none
           (subst (λ k. Come w (i + 1) (take (i * w) list ++ ns) ls (readOn (rulesNow (ruleState false fresh (i + 1) k 0) left) ls)) (sym same)
           (subst (λ a. Come w (i + 1) a ls (readOn (rulesNow (ruleState false fresh (i + 1) w 0) left) ls)) taken rest))
 
-      by-count : (t : Bool) → leb 1024 i ≡ t → Come w i (take (i * w) list) (l ∷ ls) (lineOn w i w (take (i * w) list) l ls list)
-      by-count true e = come-many w i w (take (i * w) list) l ls list (leb-true 1024 i e)
-      by-count false e = by-fault (leb-false 1024 i e) (eqb (ownFault i w l) 0) refl
+      by-count : (t : Bool) → leb mostRules i ≡ t → Come w i (take (i * w) list) (l ∷ ls) (lineOn w i w (take (i * w) list) l ls list)
+      by-count true e = come-many w i w (take (i * w) list) l ls list (leb-true mostRules i e)
+      by-count false e = by-fault (leb-false mostRules i e) (eqb (ownFault i w l) 0) refl
 
   later-lines : (ls : List (List ℕ)) → Claim ls
   later-lines [] = no-lines
@@ -179,7 +180,7 @@ unfolding cellsFault
 first-alike w v good k = refl
 
 -- the first line knows no width yet, and its own is the one of the others
-pub all-lines : (l : List ℕ) (ls : List (List ℕ)) (list : List ℕ) → length list ≡ 16384
+pub all-lines : (l : List ℕ) (ls : List (List ℕ)) (list : List ℕ) → length list ≡ mostNumbers
     → Come (length (cellsOf l)) 0 [] (l ∷ ls) (readOn (rulesNow (ruleState false fresh 0 0 0) list) (l ∷ ls))
 all-lines l ls list size = by-fault (eqb (ownFault 0 0 l) 0) refl
   where
@@ -190,11 +191,11 @@ all-lines l ls list size = by-fault (eqb (ownFault 0 0 l) 0) refl
     by-fault false e = come-bad (length (cellsOf l)) 0 0 [] l ls list (omega arith) (omega arith) same (eqb-false (ownFault 0 0 l) 0 e)
     by-fault true e =
         let none = eqb-true (ownFault 0 0 l) 0 e in
-        let zero-few : 0 < 1024 = omega arith in
-        let narrow : length (cellsOf l) ≤ 16 = line-short 0 0 zero-few (omega arith) l list none in
+        let zero-few : 0 < mostRules = omega arith in
+        let narrow : length (cellsOf l) ≤ mostCells = line-short 0 0 zero-few (omega arith) l list none in
         let ns = valuesOf (cellsOf l) in
         let left = sets list (0 * 0) ns in
-        let kept : length left ≡ 16384 = length-sets list (0 * 0) ns ∙ size in
+        let kept : length left ≡ mostNumbers = length-sets list (0 * 0) ns ∙ size in
         let none-yet : 0 * length (cellsOf l) ≡ 0 = omega arith in
         let taken : take (1 * length (cellsOf l)) left ≡ ns = rw none-yet at (taken-line 0 (length (cellsOf l)) list ns zero-few narrow size (values-length (cellsOf l))) in
         let rest = later-lines (length (cellsOf l)) narrow ls 1 left (omega arith) (omega arith) kept in

@@ -13,11 +13,12 @@ use native.Mathlib.Omega.{arith}
 use borrow.Author.Tests.{lt-ltb, le-ltb, le-leb, lt-leb, eq-eqb, ne-eqb, ltb-false, eqb-true, eqb-false}
 use lib.Dec.{ltb, eqb}
 use Rattle.ranges.specs.Numbers.{pick}
+use Rattle.lists.specs.Limits.{mostRules}
 use Rattle.text.specs.Rows.{fresh, rowNext, keptAt, readByte}
 use Rattle.text.specs.declared.row.Row.{Row}
-use Rattle.gateway.specs.RuleLines.{widthFault, cellsFault}
-use Rattle.gateway.specs.RuleBytes.{rulesNow, ruleLine, ruleState, faultedBy, withRow, judgedBy, startsAt, rulesWithin, rulesByte, rulesClose}
-use Rattle.gateway.specs.declared.rules.Rules.{Rules}
+use Rattle.gateway.specs.RuleLines.{mostCells, widthFault, cellsFault}
+use Rattle.gateway.specs.RuleBytes.{rulesNow, ruleLine, ruleState, faultedBy, withRow, judgedBy, lineAt, rulesWithin, rulesByte, rulesClose}
+use Rattle.gateway.specs.declared.rules.RulesSoFar.{RulesSoFar}
 
 -- ---- the fault of a line
 module _ (i w : ℕ) (good : Bool) (k : ℕ) where
@@ -38,30 +39,30 @@ module _ (i w : ℕ) (good : Bool) (k : ℕ) where
     unfolding cellsFault widthFault
     fault-odd first odd = rw (fine, eq-eqb i 0 first, eq-eqb (k % 2) 1 odd)
 
-    pub fault-wide : i ≡ 0 → (k % 2 ≡ 1 → ⊥) → 16 < k → cellsFault i w good k ≡ 1
+    pub fault-wide : i ≡ 0 → (k % 2 ≡ 1 → ⊥) → mostCells < k → cellsFault i w good k ≡ 1
     unfolding cellsFault widthFault
-    fault-wide first even wide = rw (fine, eq-eqb i 0 first, ne-eqb (k % 2) 1 even, lt-ltb 16 k wide)
+    fault-wide first even wide = rw (fine, eq-eqb i 0 first, ne-eqb (k % 2) 1 even, lt-ltb mostCells k wide)
 
-    pub fault-narrow : i ≡ 0 → (k % 2 ≡ 1 → ⊥) → k ≤ 16 → cellsFault i w good k ≡ 0
+    pub fault-narrow : i ≡ 0 → (k % 2 ≡ 1 → ⊥) → k ≤ mostCells → cellsFault i w good k ≡ 0
     unfolding cellsFault widthFault
-    fault-narrow first even few = rw (fine, eq-eqb i 0 first, ne-eqb (k % 2) 1 even, le-ltb 16 k few)
+    fault-narrow first even few = rw (fine, eq-eqb i 0 first, ne-eqb (k % 2) 1 even, le-ltb mostCells k few)
 
 -- a line without fault: its cells are numbers, and as many as the first line's, at most 16 and even on the first
 pub record Fine (i w : ℕ) (good : Bool) (k : ℕ) : Type 0 where
   pub numbers : good ≡ true
-  pub first : i ≡ 0 → (k % 2 ≡ 0) × (k ≤ 16)
+  pub first : i ≡ 0 → (k % 2 ≡ 0) × (k ≤ mostCells)
   pub later : (i ≡ 0 → ⊥) → k ≡ w
 
-width-fine : (k : ℕ) → widthFault k ≡ 0 → (k % 2 ≡ 0) × (k ≤ 16)
+width-fine : (k : ℕ) → widthFault k ≡ 0 → (k % 2 ≡ 0) × (k ≤ mostCells)
 unfolding widthFault
-width-fine k none = go (eqb (k % 2) 1) (ltb 16 k) refl refl none
+width-fine k none = go (eqb (k % 2) 1) (ltb mostCells k) refl refl none
   where
-    go : (s t : Bool) → eqb (k % 2) 1 ≡ s → ltb 16 k ≡ t → _≡_ {A = ℕ} (pick s 8 (pick t 1 0)) 0 → (k % 2 ≡ 0) × (k ≤ 16)
+    go : (s t : Bool) → eqb (k % 2) 1 ≡ s → ltb mostCells k ≡ t → _≡_ {A = ℕ} (pick s 8 (pick t 1 0)) 0 → (k % 2 ≡ 0) × (k ≤ mostCells)
     go true t p q e = absurd (omega arith)
     go false true p q e = absurd (omega arith)
     go false false p q e =
         let even : k % 2 ≡ 1 → ⊥ = eqb-false (k % 2) 1 p in
-        let few : k ≤ 16 = ltb-false 16 k q in
+        let few : k ≤ mostCells = ltb-false mostCells k q in
         (omega arith, few)
 
 pub fine-line : (i w : ℕ) (good : Bool) (k : ℕ) → cellsFault i w good k ≡ 0 → Fine i w good k
@@ -75,7 +76,7 @@ fine-line i w true k none = go (eqb i 0) (eqb k w) refl refl none
     go false false p q e = absurd (omega arith)
 
 -- ---- the rules after a line
-module _ (r : Rules) (row : Row) {f : ℕ} (is : f ≡ cellsFault (r .lines) (r .width) (row .good) (row .cells)) where
+module _ (r : RulesSoFar) (row : Row) {f : ℕ} (is : f ≡ cellsFault (r .lines) (r .width) (row .good) (row .cells)) where
   pub judged-fault : (f ≡ 0 → ⊥) → faultedBy r f ≡ judgedBy r row
   unfolding judgedBy
   judged-fault some = rw (← is, ne-eqb f 0 some)
@@ -96,7 +97,7 @@ module _ (r : Rules) (row : Row) {f : ℕ} (is : f ≡ cellsFault (r .lines) (r 
       go false e = let f = fine .later (eqb-false (r .lines) 0 e) in omega arith
 
 -- ---- one byte of a line, and a line's end
-module _ (r : Rules) (list : List ℕ) where
+module _ (r : RulesSoFar) (list : List ℕ) where
   pub rules-byte-stays : (b : ℕ) → (r .fault ≡ 0 → ⊥) → rulesNow r list ≡ rulesByte (rulesNow r list) b
   unfolding rulesByte
   rules-byte-stays b some = rw (ne-eqb (r .fault) 0 some)
@@ -106,20 +107,20 @@ module _ (r : Rules) (list : List ℕ) where
   rules-close-stays some = rw (ne-eqb (r .fault) 0 some)
 
   module _ (none : r .fault ≡ 0) where
-    pub rules-byte-many : (b : ℕ) → 1024 ≤ r .lines → rulesNow (faultedBy r 3) list ≡ rulesByte (rulesNow r list) b
+    pub rules-byte-many : (b : ℕ) → mostRules ≤ r .lines → rulesNow (faultedBy r 3) list ≡ rulesByte (rulesNow r list) b
     unfolding rulesByte
-    rules-byte-many b many = rw (eq-eqb (r .fault) 0 none, le-leb 1024 (r .lines) many)
+    rules-byte-many b many = rw (eq-eqb (r .fault) 0 none, le-leb mostRules (r .lines) many)
 
-    pub rules-close-many : 1024 ≤ r .lines → rulesNow (faultedBy r 3) list ≡ rulesClose (rulesNow r list)
+    pub rules-close-many : mostRules ≤ r .lines → rulesNow (faultedBy r 3) list ≡ rulesClose (rulesNow r list)
     unfolding rulesClose
-    rules-close-many many = rw (eq-eqb (r .fault) 0 none, le-leb 1024 (r .lines) many)
+    rules-close-many many = rw (eq-eqb (r .fault) 0 none, le-leb mostRules (r .lines) many)
 
-    module _ (few : r .lines < 1024) {row : Row} {run : List ℕ} where
-      pub rules-byte-reads : (b : ℕ) → record { row = row; run = run } ≡ readByte 44 (startsAt r) (ruleLine (rulesNow r list)) b
+    module _ (few : r .lines < mostRules) {row : Row} {run : List ℕ} where
+      pub rules-byte-reads : (b : ℕ) → record { row = row; run = run } ≡ readByte 44 (lineAt r) (ruleLine (rulesNow r list)) b
           → rulesNow (withRow r row) run ≡ rulesByte (rulesNow r list) b
       unfolding rulesByte
-      rules-byte-reads b is = rw (eq-eqb (r .fault) 0 none, lt-leb 1024 (r .lines) few) (ap (rulesWithin r) is)
+      rules-byte-reads b is = rw (eq-eqb (r .fault) 0 none, lt-leb mostRules (r .lines) few) (ap (rulesWithin r) is)
 
-      pub rules-close-judged : row ≡ rowNext (r .row) → run ≡ keptAt (r .row) (startsAt r) list → rulesNow (judgedBy r row) run ≡ rulesClose (rulesNow r list)
+      pub rules-close-judged : row ≡ rowNext (r .row) → run ≡ keptAt (r .row) (lineAt r) list → rulesNow (judgedBy r row) run ≡ rulesClose (rulesNow r list)
       unfolding rulesClose
-      rules-close-judged is kept = rw (eq-eqb (r .fault) 0 none, lt-leb 1024 (r .lines) few, is, kept)
+      rules-close-judged is kept = rw (eq-eqb (r .fault) 0 none, lt-leb mostRules (r .lines) few, is, kept)

@@ -8,7 +8,7 @@
 --     rules-without-headers  no header line: the line rule,tests alone
 --     no-rules               an empty rules file is refused with 1
 --
--- The contracts tie the code to these definitions: `rules_feed`, `rules_finish`, `verdict`, `make_table`, `headers_feed`,
+-- The contracts tie the code to these definitions: `rules_feed`, `rules_finish`, `rules_fault`, `make_table`, `headers_feed`,
 -- `headers_finish`, `put_head` and `put_refused`. What is left to testing is that the files that call the system hand each the
 -- bytes that were read and write the bytes that were put.
 -- Assumes nothing.
@@ -22,13 +22,14 @@ use lib.Dec.{eqb}
 use lib.ListN.{length, length-append}
 use lib.Seq.{take-all, length-take-le}
 use Rattle.ranges.specs.Numbers.{pick}
+use Rattle.lists.specs.Limits.{mostFields, mostNumbers}
 use Rattle.lists.specs.Rules.{fieldsOf}
 use Rattle.lists.specs.Faults.{listFault}
 use Rattle.lists.specs.FirstMatch.{firstMatch}
 use Rattle.sorting.specs.Table.{builtTable}
 use Rattle.lists.proofs.Sound.{list-shaped}
 use Rattle.lookup.specs.Lookup.{lookupOf, answerOf, testsIn}
-use Rattle.lookup.specs.Bounds.{zeros}
+use Rattle.lists.specs.Headers.{headerLength, zeros}
 use Rattle.lookup.proofs.Theorems.{built-lookup}
 use Rattle.text.specs.Cells.{fed}
 use Rattle.text.specs.Rows.{allNumbers, valuesOf}
@@ -55,17 +56,17 @@ stands-checked ls none = go (eqb (readingFault ls) 0) refl none
 module _ (y : RulesNow) (ls : List (List ℕ)) (read : Rendered ls y) (hb : List ℕ) where
   -- a fault
   printed-fault : (rulesFault ls ≡ 0 → ⊥) → printedBy y hb ≡ refusedSaid (rulesFault ls)
-  printed-fault some = rw (read .verdict, ne-eqb (rulesFault ls) 0 some)
+  printed-fault some = rw (read .same-fault, ne-eqb (rulesFault ls) 0 some)
 
   -- rules that stand
   printed-answers : rulesFault ls ≡ 0 → printedBy y hb ≡ answered (rulesFrom ls) (linesOf hb)
   printed-answers none =
       let R = rulesFrom ls in
-      let few : fieldsOf R ≤ 8 = list-shaped R (stands-checked ls none) .few-fields in
-      rw (read .verdict, eq-eqb (rulesFault ls) 0 none, read .list none) (ap (λ w. headSaid ++ w) (headers-read R (builtTable R) few hb))
+      let few : fieldsOf R ≤ mostFields = list-shaped R (stands-checked ls none) .few-fields in
+      rw (read .same-fault, eq-eqb (rulesFault ls) 0 none, read .list none) (ap (λ w. headSaid ++ w) (headers-read R (builtTable R) few hb))
 
 -- whatever the list holds at first, as long as it has 16,384 places
-pub program-is : (list rb hb : List ℕ) → length list ≡ 16384 → printedOf list rb hb ≡ programOf rb hb
+pub program-is : (list rb hb : List ℕ) → length list ≡ mostNumbers → printedOf list rb hb ≡ programOf rb hb
 unfolding programOf
 program-is list rb hb size = go (eqb (rulesFault (linesOf rb)) 0) refl
   where
@@ -103,18 +104,18 @@ pub rules-without-headers : (rb : List ℕ) → rulesFault (linesOf rb) ≡ 0 �
 rules-without-headers rb none = answers-all rb [] none ∙ append-nil headSaid
 
 -- a header's eight numbers are the line's numbers and zeros past them
-header-long : (cells : List (List ℕ)) → length (headerOf cells) ≡ 8
+header-long : (cells : List (List ℕ)) → length (headerOf cells) ≡ headerLength
 header-long cells =
-    let size : length (valuesOf cells ++ zeros) ≡ length (valuesOf cells) + 8 = length-append (valuesOf cells) zeros in
-    length-take-le 8 (valuesOf cells ++ zeros) (omega arith)
+    let size : length (valuesOf cells ++ zeros) ≡ length (valuesOf cells) + headerLength = length-append (valuesOf cells) zeros in
+    length-take-le headerLength (valuesOf cells ++ zeros) (omega arith)
 
 header-eight : (cells : List (List ℕ)) → eightOf (headerOf cells) ≡ headerOf cells
 unfolding eightOf
 header-eight cells =
     let size = header-long cells in
-    let over : 8 ≤ length (headerOf cells) = omega arith in
-    let all : length (headerOf cells) ≤ 8 = omega arith in
-    rw (le-ltb (length (headerOf cells)) 8 over) (take-all 8 (headerOf cells) all)
+    let over : headerLength ≤ length (headerOf cells) = omega arith in
+    let all : length (headerOf cells) ≤ headerLength = omega arith in
+    rw (le-ltb (length (headerOf cells)) headerLength over) (take-all headerLength (headerOf cells) all)
 
 -- a header line of d cells, all numbers, is answered with the first rule that fits it, or none, and the tests of the lookup
 pub line-first-match : (ls : List (List ℕ)) → rulesFault ls ≡ 0 → (l : List ℕ) → allNumbers (cellsOf l) ≡ true → length (cellsOf l) ≡ fieldsOf (rulesFrom ls)

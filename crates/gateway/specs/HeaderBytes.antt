@@ -1,3 +1,4 @@
+-- Scaffolding: only contracts of private functions cite this; nothing here has to be believed.
 -- The headers file byte by byte, as the code goes: what has been read of it, held by value, the header that its numbers go
 -- to, and what has been printed. That this comes to what `HeaderLines.antt` says of its lines is `headers-read` of
 -- `proofs/HeadersRead.antt`.

@@ -10,14 +10,14 @@ use Rattle.ranges.specs.Numbers.{pick}
 use Rattle.ranges.specs.Refusals.{numberOf, BadLine}
 use Rattle.lists.specs.Rules.{Rules, fieldsOf}
 use Rattle.lookup.specs.Lookup.{lookupOf}
-use Rattle.lookup.specs.Bounds.{zeros}
+use Rattle.lists.specs.Headers.{headerLength, zeros}
 use Rattle.text.specs.Rows.{allNumbers, valuesOf}
 use Rattle.gateway.specs.RuleLines.{cellsOf}
 use Rattle.gateway.specs.Said.{refusedSaid, lookedSaid}
 
 -- a header's eight numbers, zeros where there are fewer than eight
 unfoldable pub eightOf : List ℕ → List ℕ
-eightOf xs = pick (ltb (length xs) 8) zeros (take 8 xs)
+eightOf xs = pick (ltb (length xs) headerLength) zeros (take headerLength xs)
 
 -- what is printed for a line of k cells, all numbers or not, that make this header
 unfoldable pub cellsSaid : Rules → List ℕ → Bool → ℕ → List ℕ → List ℕ
@@ -26,7 +26,7 @@ cellsSaid R T good k header =
 
 -- the header of a line's cells: their numbers, and zeros past them
 abbrev pub headerOf : List (List ℕ) → List ℕ
-headerOf cells = take 8 (valuesOf cells ++ zeros)
+headerOf cells = take headerLength (valuesOf cells ++ zeros)
 
 -- what is printed for a line
 abbrev pub lineSaid : Rules → List ℕ → List ℕ → List ℕ

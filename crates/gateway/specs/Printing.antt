@@ -1,3 +1,4 @@
+-- Scaffolding: only contracts of private functions cite this; nothing here has to be believed.
 -- What the code leaves while it reads the headers file: what stands in the run of bytes that is printed, and how many bytes
 -- were read.
 -- Assumes nothing: these are definitions.

@@ -1,7 +1,7 @@
 -- 01, The program: what is printed for the bytes of the rules file and of the headers file. A file that can't be opened
 -- counts as empty.
--- `programOf` says it of the files' lines. `printedOf` says it as the code goes: both files read byte by byte, the verdict,
--- the table, the lines put one after the other. That the two agree is `program-is` of `proofs/Theorems.antt`.
+-- `programOf` says it of the files' lines. `printedOf` says it as the code goes: both files read byte by byte, the rules'
+-- fault, the table, the lines put one after the other. That the two agree is `program-is` of `proofs/Theorems.antt`.
 -- Assumes nothing: these are definitions.
 use Prim.Native.Nat.{ℕ}
 use mathlib.Core.List.{List, [], _∷_, _++_}
@@ -9,7 +9,7 @@ use lib.Dec.{eqb}
 use Rattle.ranges.specs.Numbers.{pick}
 use Rattle.lists.specs.Rules.{Rules}
 use Rattle.sorting.specs.Table.{builtTable}
-use Rattle.lookup.specs.Bounds.{zeros}
+use Rattle.lists.specs.Headers.{zeros}
 use Rattle.text.specs.Cells.{fed}
 use Rattle.gateway.specs.Files.{linesOf, step, finish}
 use Rattle.gateway.specs.Said.{headSaid, refusedSaid}
@@ -17,7 +17,7 @@ use Rattle.gateway.specs.RuleLines.{rulesFrom, rulesFault}
 use Rattle.gateway.specs.RuleBytes.{RulesNow, rulesInFile, noRules, rulesByte, rulesClose, rulesBegun}
 use Rattle.gateway.specs.HeaderLines.{linesSaid}
 use Rattle.gateway.specs.HeaderBytes.{headersInFile, noHeaders, headersByte, headersClose, headersBegun}
-use Rattle.gateway.specs.Ready.{listRead, verdictOf}
+use Rattle.gateway.specs.Ready.{listRead, readFault}
 
 -- ---- by the files' lines
 -- when the rules stand: the first line, and a line for each header line
@@ -42,9 +42,9 @@ headersEnd R T bytes =
 -- what becomes of rules that have been read
 abbrev pub printedBy : RulesNow → List ℕ → List ℕ
 printedBy y headers =
-    pick (eqb (verdictOf (y .rules) (y .list)) 0)
+    pick (eqb (readFault (y .rules) (y .list)) 0)
     (headSaid ++ headersEnd (listRead (y .rules) (y .list)) (builtTable (listRead (y .rules) (y .list))) headers)
-    (refusedSaid (verdictOf (y .rules) (y .list)))
+    (refusedSaid (readFault (y .rules) (y .list)))
 
 abbrev pub printedOf : List ℕ → List ℕ → List ℕ → List ℕ
 printedOf list rules headers = printedBy (rulesEnd list rules) headers

@@ -4,14 +4,15 @@
 -- the last line.
 -- A fault is its refusal's number, and 0 says that there is none.
 -- Assumes nothing: these are definitions.
-use Prim.Native.Nat.{ℕ, _+_, _/_, _%_}
+use Prim.Native.Nat.{ℕ, _+_, _*_, _/_, _%_}
 use mathlib.Core.Bool.{Bool}
 use mathlib.Core.List.{List, [], _∷_, _++_}
 use lib.ListN.{length}
 use lib.Dec.{ltb, leb, eqb}
 use Rattle.ranges.specs.Numbers.{pick}
 use Rattle.ranges.specs.Refusals.{numberOf, BadFields, BadLine, TooManyRules}
-use Rattle.lists.specs.Rules.{Rules, listed}
+use Rattle.lists.specs.Limits.{mostFields, mostRules}
+use Rattle.lists.specs.Rules.{Rules, shapeOf, listed}
 use Rattle.lists.specs.Faults.{listFault}
 use Rattle.text.specs.Rows.{cellsIn, allNumbers, valuesOf}
 
@@ -23,9 +24,13 @@ cellsOf line = cellsIn 44 line
 abbrev pub firstFault : ℕ → ℕ → ℕ
 firstFault f g = pick (eqb f 0) g f
 
+-- the most cells of a line: two a field
+abbrev pub mostCells : ℕ
+mostCells = mostFields * 2
+
 -- the number of cells of the first line: odd gives 8, even but not 2 to 16 gives 1
 unfoldable pub widthFault : ℕ → ℕ
-widthFault k = pick (eqb (k % 2) 1) (numberOf BadLine) (pick (ltb 16 k) (numberOf BadFields) 0)
+widthFault k = pick (eqb (k % 2) 1) (numberOf BadLine) (pick (ltb mostCells k) (numberOf BadFields) 0)
 
 -- a line of k cells, all numbers or not, after i lines, of which the first had w cells
 unfoldable pub cellsFault : ℕ → ℕ → Bool → ℕ → ℕ
@@ -37,7 +42,7 @@ ownFault i w line = cellsFault i w (allNumbers (cellsOf line)) (length (cellsOf 
 
 -- a line after i lines: the 1,025th gives 3, whatever stands on it
 abbrev pub lineFault : ℕ → ℕ → List ℕ → ℕ
-lineFault i w line = pick (leb 1024 i) (numberOf TooManyRules) (ownFault i w line)
+lineFault i w line = pick (leb mostRules i) (numberOf TooManyRules) (ownFault i w line)
 
 -- the first fault of lines after i lines, where the first line has w cells
 abbrev pub linesFault : ℕ → ℕ → List (List ℕ) → ℕ
@@ -56,7 +61,7 @@ listOf (l ∷ ls) = valuesOf (cellsOf l) ++ listOf ls
 
 -- the list of rules: half as many fields as cells
 abbrev pub rulesFrom : List (List ℕ) → Rules
-rulesFrom ls = listed record { d = widthOf ls / 2 } (listOf ls)
+rulesFrom ls = listed (shapeOf (widthOf ls / 2)) (listOf ls)
 
 -- the fault that is found while the lines are read: 1 where there is none
 abbrev pub readingFault : List (List ℕ) → ℕ

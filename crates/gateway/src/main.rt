@@ -6,34 +6,35 @@
 //     gateway --help              says this
 //
 // A file is read in pieces, cut anywhere, through a state held by value (`rules`, `headers`): nothing of a file is kept but
-// the list, of at most 16,384 numbers, and that state. The list is checked and its table is built once (`ready`), then
+// the list, of at most `MOST_NUMBERS`, and that state. The list is checked and its table is built once (`ready`), then
 // each header line is one lookup (`answer`). Lines are put into a run of bytes (`say`) and written when it is full.
 //
 // What is proved. Each function of the files named so far meets its contract on slices; `proofs/Theorems.antt` puts them
 // together: what is printed is `programOf` of the two files' bytes, however they are cut into pieces. What opens, reads and
-// writes files (`input`, `output`, `rules_in`, `headers_in`, `serve` and this one) is proved to be safe and to end; that it
-// hands on the bytes read and writes the bytes put is tested.
+// writes files (`input`, `output`, `rules_source`, `headers_source`, `serve` and this one) is proved to be safe and to
+// end; that it hands on the bytes read and writes the bytes put is tested.
 mod answer;
 mod headers;
-mod headers_in;
+mod headers_source;
 mod input;
 mod output;
 mod ready;
 mod rules;
-mod rules_in;
+mod rules_source;
 mod say;
 mod serve;
 
 use libc::STDERR_FILENO;
 use libc::STDOUT_FILENO;
+use lists::shape::MOST_NUMBERS;
 use serve::serve_files;
+use tables::layout::MOST_TABLE;
 
-// Lends the runs that the work needs: 16,384 numbers for 1,024 rules of 8 fields, and 4 + 2 * 1,024 + 2 * 8,192 for their
-// table.
+// Lends the runs that the work needs: room for the longest list and for the longest table.
 fn run(rules_path: &[u8], headers_path: &[u8]) {
     let mut bytes = io::large_buffer();
-    let mut list = [0u32; 16384];
-    let mut table = [0u16; 18436];
+    let mut list = [0u32; MOST_NUMBERS];
+    let mut table = [0u16; MOST_TABLE];
     let mut header = [0u32; 8];
     let mut out = io::large_buffer();
     serve_files(

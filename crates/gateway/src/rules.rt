@@ -1,5 +1,7 @@
 // The rules file, as far as its bytes have come: each number that stands goes to its place in the lent list, and the
 // first fault is kept.
+use lists::shape::MOST_FIELDS;
+use lists::shape::MOST_RULES;
 use ranges::refusal::BAD_FIELDS;
 use ranges::refusal::BAD_LINE;
 use ranges::refusal::TOO_MANY_RULES;
@@ -9,17 +11,21 @@ use text::row::row_next;
 use text::row::row_start;
 ghost use mathlib.Core.Path.{_≡_};
 ghost use Prim.Native.Nat.{_*_, _<_};
+ghost use Rattle.lists.specs.Limits.{mostRules};
 ghost use Rattle.text.specs.Cells.{fed};
 ghost use Rattle.gateway.specs.Files.{plain, step, lastLine, finish};
 ghost use Rattle.gateway.specs.RuleLines.{cellsFault};
 ghost use Rattle.gateway.specs.RuleBytes.{rulesNow, rulesInFile, noRules, faultedBy, withRow, judgedBy, rulesByte, rulesClose, rulesBegun};
 
-// How many lines a rules file may have: one more gives 3, whatever stands on it.
-const MOST_LINES: u16 = 1024;
+// The most lines of a rules file, a rule each: one more gives 3, whatever stands on it.
+const MOST_LINES: u16 = MOST_RULES as u16;
+
+// The most cells of a line, two a field: more on the first line give 1.
+const MOST_CELLS: u32 = MOST_FIELDS as u32 * 2;
 
 // What has been read of the rules: the present line, with whether a byte of it has come; how many lines have ended; how
 // many cells the first of them had; and the number of the first fault, 0 while there is none.
-pub struct Rules {
+pub struct RulesSoFar {
     pub begun: bool,
     pub row: Row,
     pub lines: u16,
@@ -30,7 +36,7 @@ pub struct Rules {
 // The rules, and whether the last byte was a CR of which it is not known yet whether it ends the line.
 pub struct RulesFile {
     pub cr: bool,
-    pub rules: Rules,
+    pub rules: RulesSoFar,
 }
 
 // Makes rules of which nothing has been read.
@@ -38,7 +44,7 @@ pub fn rules_start() -> RulesFile
     ensures { λ r. ⌜ r ≡ noRules ⌝ }
 {
     let row = row_start();
-    let rules = Rules {
+    let rules = RulesSoFar {
         begun: false,
         row,
         lines: 0,
@@ -72,17 +78,17 @@ fn cells_fault(lines: u16, width: u16, good: bool, cells: u32) -> u32
     if cells % 2 == 1 {
         return BAD_LINE;
     }
-    if 16 < cells {
+    if MOST_CELLS < cells {
         return BAD_FIELDS;
     }
     0
 }
 
 // Gives the rules with a fault.
-fn faulted(rules: Rules, fault: u32) -> Rules
+fn faulted(rules: RulesSoFar, fault: u32) -> RulesSoFar
     ensures { λ r. ⌜ r ≡ faultedBy rules fault ⌝ }
 {
-    Rules {
+    RulesSoFar {
         begun: false,
         row: row_start(),
         lines: rules.lines,
@@ -92,10 +98,10 @@ fn faulted(rules: Rules, fault: u32) -> Rules
 }
 
 // Gives the rules within a line that has come so far.
-fn with_row(rules: Rules, row: Row) -> Rules
+fn with_row(rules: RulesSoFar, row: Row) -> RulesSoFar
     ensures { λ r. ⌜ r ≡ withRow rules row ⌝ }
 {
-    Rules {
+    RulesSoFar {
         begun: true,
         row,
         lines: rules.lines,
@@ -105,15 +111,15 @@ fn with_row(rules: Rules, row: Row) -> Rules
 }
 
 // Gives the rules after a line whose cells have all ended.
-fn judged(rules: Rules, row: Row) -> Rules
-    requires { ⌜ rules .lines < 1024 ⌝ }
+fn judged(rules: RulesSoFar, row: Row) -> RulesSoFar
+    requires { ⌜ rules .lines < mostRules ⌝ }
     ensures { λ r. ⌜ r ≡ judgedBy rules row ⌝ }
 {
     let fault = cells_fault(rules.lines, rules.width, row.good, row.cells);
     if fault != 0 {
         return faulted(rules, fault);
     }
-    Rules {
+    RulesSoFar {
         begun: false,
         row: row_start(),
         lines: rules.lines + 1,
@@ -123,7 +129,7 @@ fn judged(rules: Rules, row: Row) -> Rules
 }
 
 // Reads one byte of a line.
-fn rules_byte(rules: Rules, byte: u8, list: &mut [u32]) -> Rules
+fn rules_byte(rules: RulesSoFar, byte: u8, list: &mut [u32]) -> RulesSoFar
     ensures { λ r. ⌜ rulesNow r (now (list .exit)) ≡ rulesByte (rulesNow rules (now (list .entry))) byte ⌝ }
 {
     if rules.fault != 0 {
@@ -141,7 +147,7 @@ fn rules_byte(rules: Rules, byte: u8, list: &mut [u32]) -> Rules
 }
 
 // Ends a line.
-fn rules_close(rules: Rules, list: &mut [u32]) -> Rules
+fn rules_close(rules: RulesSoFar, list: &mut [u32]) -> RulesSoFar
     ensures { λ r. ⌜ rulesNow r (now (list .exit)) ≡ rulesClose (rulesNow rules (now (list .entry))) ⌝ }
 {
     if rules.fault != 0 {
@@ -157,7 +163,7 @@ fn rules_close(rules: Rules, list: &mut [u32]) -> Rules
 }
 
 // Reads one byte of the file where no CR waits.
-fn rules_plain(rules: Rules, byte: u8, list: &mut [u32]) -> RulesFile
+fn rules_plain(rules: RulesSoFar, byte: u8, list: &mut [u32]) -> RulesFile
     ensures { λ r. ⌜ rulesInFile r (now (list .exit)) ≡ plain rulesByte (rulesNow rules (now (list .entry))) byte ⌝ }
 {
     if byte == b'\r' {
@@ -202,7 +208,7 @@ pub fn rules_feed(file: RulesFile, bytes: &[u8], list: &mut [u32]) -> RulesFile
 }
 
 // Ends the present line at the file's end, where a byte of it has come.
-fn rules_last(rules: Rules, list: &mut [u32]) -> Rules
+fn rules_last(rules: RulesSoFar, list: &mut [u32]) -> RulesSoFar
     ensures { λ r. ⌜ rulesNow r (now (list .exit)) ≡ lastLine rulesClose rulesBegun (rulesNow rules (now (list .entry))) ⌝ }
 {
     if !rules.begun {
@@ -212,7 +218,7 @@ fn rules_last(rules: Rules, list: &mut [u32]) -> Rules
 }
 
 // Ends the file.
-pub fn rules_finish(file: RulesFile, list: &mut [u32]) -> Rules
+pub fn rules_finish(file: RulesFile, list: &mut [u32]) -> RulesSoFar
     ensures { λ r. ⌜ rulesNow r (now (list .exit)) ≡ finish rulesByte rulesClose rulesBegun (rulesInFile file (now (list .entry))) ⌝ }
 {
     let rules = file.rules;

@@ -17,7 +17,7 @@ use mathlib.Core.Path.{_≡_, refl}
 use lib.Dec.{ltb}
 use borrow.Author.Tests.{eqb-false}
 use lib.ListN.{length}
-use Rattle.ranges.specs.Numbers.{pick}
+use Rattle.ranges.specs.Numbers.{sameList, pick}
 use Rattle.ranges.specs.Refusals.{stands, saysCount, countUnless}
 use Rattle.ranges.specs.Prefixes.{prefixFault, lastOf, boundsOf, saysBounds}
 use Rattle.ranges.specs.Blocks.{prefixesOf, expandFault, expandOf}
@@ -32,13 +32,13 @@ use Rattle.lists.specs.Scan.{matchOf, scanOf, saysMatch}
 use Rattle.lists.specs.Independence.{paired, partnerOf, pairOf, independenceOf, saysPair}
 use Rattle.lists.specs.declared.scan.Match.the-variants as match
 use Rattle.lists.specs.declared.independence.Pair.the-variants as pair
-use Rattle.sorting.specs.Build.{buildFault, builtParts, buildOf, sameNumbers, auditOf, saysVerdict}
-use Rattle.sorting.specs.Report.{sizeOf, leastRule, reportFault, reportOf, saysPart}
+use Rattle.sorting.specs.Build.{buildFault, builtParts, buildOf, auditOf, saysVerdict}
+use Rattle.tables.specs.Report.{sizeOf, leastRule, reportFault, reportOf, saysPart}
 use Rattle.tables.specs.Layout.{View}
 use Rattle.tables.specs.Opening.{viewOf, openFault}
 use Rattle.sorting.specs.Table.{builtTable}
 use Rattle.sorting.specs.declared.audit.Verdict.the-variants as verdict
-use Rattle.sorting.specs.declared.report.Part.the-variants as part
+use Rattle.tables.specs.declared.report.Part.the-variants as part
 use Rattle.lookup.specs.Lookup.{visitOf, afterVisit, better, lookupFrom, searchOf, lookupOf}
 use Rattle.lookup.specs.declared.walk.Walked.{Walked}
 use Rattle.lookup.specs.declared.walk.Walked.the-variants.{Ran, Broken}
@@ -95,15 +95,15 @@ build-told R T = count-back (buildOf R T) (counted (buildFault R T) (builtParts 
 pub audit-told : (R : Rules) (T : List ℕ) → verdictBack (numbersOf 1 (saysVerdict (auditOf R T))) ≡ auditOf R T
 audit-told R T =
     verdict-back (auditOf R T)
-    (unless VerdictRefuses (buildFault R T) (pick (sameNumbers T (builtTable R)) verdict.Yes verdict.No) (verdict.Refused (buildFault R T))
-    (either VerdictRefuses (sameNumbers T (builtTable R)) verdict.Yes verdict.No tt tt)
+    (unless VerdictRefuses (buildFault R T) (pick (sameList T (builtTable R)) verdict.Yes verdict.No) (verdict.Refused (buildFault R T))
+    (either VerdictRefuses (sameList T (builtTable R)) verdict.Yes verdict.No tt tt)
     (λ r. r))
 
 pub report-told : (R : Rules) (T : List ℕ) (q : ℕ) → partBack (numbersOf 2 (saysPart (reportOf R T q))) ≡ reportOf R T q
 report-told R T q =
     let v = viewOf R T in
     part-back (reportOf R T q)
-    (unless PartRefuses (reportFault R T q) (part.Is (sizeOf v q) (leastRule (rulesIn R) v q)) (part.Refused (reportFault R T q)) tt (λ r. r))
+    (unless PartRefuses (reportFault R T q) (part.Is (sizeOf (v .start) q) (leastRule (rulesIn R) (v .start) (v .order) q)) (part.Refused (reportFault R T q)) tt (λ r. r))
 
 -- a broken partition is refused with 6
 visited : (w : Walked) (next : Found → ℕ → Looked) → ((x : Found) (u : ℕ) → LookedRefuses (next x u)) → LookedRefuses (afterVisit w next)

@@ -7,7 +7,7 @@ use mathlib.Core.Path.{_≡_}
 use mathlib.Core.List.{List, [], _∷_, _++_}
 use lib.ListN.{length, replicate}
 use Rattle.ranges.specs.Refusals.{none, Said, saidOf}
-use Rattle.lists.specs.Rules.{Rules, listed}
+use Rattle.lists.specs.Rules.{Rules, shapeOf, listed}
 use Rattle.lookup.specs.declared.lookup.Looked.{Looked}
 use Rattle.lookup.specs.declared.lookup.Looked.the-variants.{Rule, Nothing, Refused}
 
@@ -23,7 +23,7 @@ pub record Told (k : ℕ) (s : Said) (r : ℕ) (run : List ℕ) : Type 0 where
 
 -- a list as lent, of rules of d fields
 abbrev pub rulesOf : ℕ → List ℕ → Rules
-rulesOf d l = listed (record { d = d }) l
+rulesOf d l = listed (shapeOf d) l
 
 -- what a lookup says with each number at its own place: 1, the rule number and the tests; 0, 0 and the tests where no rule
 -- fits (`saysLooked` leaves the rule number out there, which would move the tests)

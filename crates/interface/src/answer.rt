@@ -5,13 +5,13 @@ use lookup::lookup::Looked;
 use ranges::prefix::Bounds;
 use ranges::refusal::Count;
 use sorting::audit::Verdict;
-use sorting::report::Part;
+use tables::report::Part;
 ghost use Rattle.ranges.specs.Refusals.{saysCount};
 ghost use Rattle.ranges.specs.Prefixes.{saysBounds};
 ghost use Rattle.lists.specs.Scan.{saysMatch};
 ghost use Rattle.lists.specs.Independence.{saysPair};
 ghost use Rattle.sorting.specs.Build.{saysVerdict};
-ghost use Rattle.sorting.specs.Report.{saysPart};
+ghost use Rattle.tables.specs.Report.{saysPart};
 ghost use Rattle.interface.specs.Answers.{Told, saysInPlace};
 
 // Writes what is counted, and gives the refusal number.

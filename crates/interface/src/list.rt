@@ -5,7 +5,7 @@ use crate::answer::put_pair;
 use lists::check::check_list;
 use lists::independence::independence;
 use lists::scan::plain_scan;
-use lists::shape::Shape;
+use lists::shape::shape_of;
 ghost use Rattle.ranges.specs.Refusals.{saysCount};
 ghost use Rattle.lists.specs.Check.{checkOf};
 ghost use Rattle.lists.specs.Scan.{saysMatch, scanOf};
@@ -17,7 +17,7 @@ ghost use Rattle.interface.specs.Answers.{Told, rulesOf};
 pub extern "C" fn cuy_check(d: usize, list: &[u32], answer: &mut [u64; 4]) -> u32
     ensures { λ r. ⌜ Told 1 (saysCount (checkOf (rulesOf d (now (list .entry))))) r (now (answer .exit)) ⌝ }
 {
-    put_count(check_list(Shape { d }, list), answer)
+    put_count(check_list(shape_of(d), list), answer)
 }
 
 // Scans a list plainly: answers 1 and the first match, or 0 and 0 where no rule fits the header.
@@ -30,7 +30,7 @@ pub extern "C" fn cuy_plain_scan(
 ) -> u32
     ensures { λ r. ⌜ Told 2 (saysMatch (scanOf (rulesOf d (now (list .entry))) (now (header .entry)))) r (now (answer .exit)) ⌝ }
 {
-    put_match(plain_scan(Shape { d }, list, *header), answer)
+    put_match(plain_scan(shape_of(d), list, *header), answer)
 }
 
 // Tests a list for order independence: answers 1, 0 and 0 where no header fits two different rules, else 0 and the
@@ -39,5 +39,5 @@ pub extern "C" fn cuy_plain_scan(
 pub extern "C" fn cuy_independence(d: usize, list: &[u32], answer: &mut [u64; 6]) -> u32
     ensures { λ r. ⌜ Told 3 (saysPair (independenceOf (rulesOf d (now (list .entry))))) r (now (answer .exit)) ⌝ }
 {
-    put_pair(independence(Shape { d }, list), answer)
+    put_pair(independence(shape_of(d), list), answer)
 }

@@ -3,15 +3,15 @@ use crate::answer::put_count;
 use crate::answer::put_looked;
 use crate::answer::put_part;
 use crate::answer::put_verdict;
-use lists::shape::Shape;
+use lists::shape::shape_of;
 use lookup::lookup::lookup;
 use sorting::audit::audit;
 use sorting::build::build;
-use sorting::report::report;
+use tables::report::report;
 ghost use mathlib.Core.Path.{_≡_};
 ghost use Rattle.ranges.specs.Refusals.{saysCount};
 ghost use Rattle.sorting.specs.Build.{buildOf, tableAfter, auditOf, saysVerdict};
-ghost use Rattle.sorting.specs.Report.{reportOf, saysPart};
+ghost use Rattle.tables.specs.Report.{reportOf, saysPart};
 ghost use Rattle.lookup.specs.Lookup.{lookupOf};
 ghost use Rattle.interface.specs.Answers.{Told, rulesOf, saysInPlace};
 
@@ -22,7 +22,7 @@ pub extern "C" fn cuy_build(d: usize, list: &[u32], table: &mut [u16], answer: &
     ensures { λ r. ⌜ Told 1 (saysCount (buildOf (rulesOf d (now (list .entry))) (now (table .entry)))) r (now (answer .exit)) ⌝ }
     ensures { λ _. ⌜ now (table .exit) ≡ tableAfter (rulesOf d (now (list .entry))) (now (table .entry)) ⌝ }
 {
-    put_count(build(Shape { d }, list, table), answer)
+    put_count(build(shape_of(d), list, table), answer)
 }
 
 // Looks a header up in a table: answers 1 and the first match, or 0 and 0 where no rule fits, and the number of tests.
@@ -36,7 +36,7 @@ pub extern "C" fn cuy_lookup(
 ) -> u32
     ensures { λ r. ⌜ Told 3 (saysInPlace (lookupOf (rulesOf d (now (list .entry))) (now (table .entry)) (now (header .entry)))) r (now (answer .exit)) ⌝ }
 {
-    put_looked(lookup(Shape { d }, list, table, *header), answer)
+    put_looked(lookup(shape_of(d), list, table, *header), answer)
 }
 
 // Audits a table: answers 1 where every number of it is what the build would write for this list, else 0.
@@ -44,7 +44,7 @@ pub extern "C" fn cuy_lookup(
 pub extern "C" fn cuy_audit(d: usize, list: &[u32], table: &[u16], answer: &mut [u64; 4]) -> u32
     ensures { λ r. ⌜ Told 1 (saysVerdict (auditOf (rulesOf d (now (list .entry))) (now (table .entry)))) r (now (answer .exit)) ⌝ }
 {
-    put_verdict(audit(Shape { d }, list, table), answer)
+    put_verdict(audit(shape_of(d), list, table), answer)
 }
 
 // Reports on a partition of a table: answers its size and its smallest rule number, worked out by reading its places.
@@ -58,5 +58,5 @@ pub extern "C" fn cuy_report(
 ) -> u32
     ensures { λ r. ⌜ Told 2 (saysPart (reportOf (rulesOf d (now (list .entry))) (now (table .entry)) partition)) r (now (answer .exit)) ⌝ }
 {
-    put_part(report(Shape { d }, list, table, partition), answer)
+    put_part(report(shape_of(d), list, table, partition), answer)
 }

@@ -4,8 +4,8 @@
 -- Assumes nothing.
 use mathlib.Core.Path.{sym, _∙_}
 use Rattle.ranges.proofs.OneAnswer.{OneAnswer}
-use Rattle.lists.proofs.shape.cell.Kinds as cell-kinds
-use Rattle.lists.proofs.shape.cell.Reads as cell
+use Rattle.lists.proofs.shape.offset_of.Kinds as offset-of-kinds
+use Rattle.lists.proofs.shape.offset_of.Reads as offset-of
 use Rattle.lists.proofs.shape.rules_in.Kinds as rules-in-kinds
 use Rattle.lists.proofs.shape.rules_in.Reads as rules-in
 use Rattle.lists.proofs.shape.shape_of.Kinds as shape-of-kinds
@@ -25,8 +25,8 @@ use Rattle.lists.proofs.scan.plain_scan.Reads as plain-scan
 use Rattle.lists.proofs.independence.independence.Kinds as independence-kinds
 use Rattle.lists.proofs.independence.independence.Reads as independence
 
-pub cell-one : OneAnswer 0 cell-kinds.ps cell-kinds.r cell.Learnt
-cell-one κs a x y e g p q = p ∙ sym q
+pub offset-of-one : OneAnswer 0 offset-of-kinds.ps offset-of-kinds.r offset-of.Learnt
+offset-of-one κs a x y e g p q = p ∙ sym q
 
 pub rules-in-one : OneAnswer 1 rules-in-kinds.ps rules-in-kinds.r rules-in.Learnt
 rules-in-one κs a x y e g p q = p ∙ sym q

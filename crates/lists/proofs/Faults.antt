@@ -1,7 +1,7 @@
 -- Laws of the refusals 1 to 4 of a list (`specs/Faults.antt`): which one a list meets, from the tests that lead there, and what
 -- a list is that meets none.
---     shape-1, shape-1-many, shape-2, shape-3, shape-stands      1, 2, 3, and none of them
---     counted-2, counted-3, counted-stands                       the same, of n as worked out by a callee
+--     shape-no-fields, shape-many-fields, shape-part-rule, shape-many-rules, shape-stands      1, 2, 3, and none of them
+--     counted-part-rule, counted-many-rules, counted-stands                       the same, of n as worked out by a callee
 --     shaped                                                     a list that meets none of 1, 2, 3
 --     shape-few                                                  the number of a shape's refusal is at most 3
 --     shape-of, ends-of                                          a list that meets none of 1 to 4 meets none of 1, 2, 3, and not 4
@@ -24,42 +24,42 @@ use Rattle.lists.proofs.Rules.{Shaped, whole-length, length-whole}
 
 -- ---- 1, 2, 3
 module _ (R : Rules) where
-  pub shape-1 : fieldsOf R < 1 → shapeFault R ≡ refused BadFields
+  pub shape-no-fields : fieldsOf R < 1 → shapeFault R ≡ refused BadFields
   unfolding shapeFault
-  shape-1 few = rw (lt-ltb (fieldsOf R) 1 few)
+  shape-no-fields few = rw (lt-ltb (fieldsOf R) 1 few)
 
-  pub shape-1-many : 1 ≤ fieldsOf R → 8 < fieldsOf R → shapeFault R ≡ refused BadFields
+  pub shape-many-fields : 1 ≤ fieldsOf R → 8 < fieldsOf R → shapeFault R ≡ refused BadFields
   unfolding shapeFault
-  shape-1-many some many = rw (le-ltb (fieldsOf R) 1 some, lt-ltb 8 (fieldsOf R) many)
+  shape-many-fields some many = rw (le-ltb (fieldsOf R) 1 some, lt-ltb 8 (fieldsOf R) many)
 
 module _ (R : Rules) (some : 1 ≤ fieldsOf R) (few : fieldsOf R ≤ 8) where
-  pub shape-2 : (rulesIn R * fieldsOf R * 2 ≡ length (R .numbers) → ⊥) → shapeFault R ≡ refused BadLength
+  pub shape-part-rule : (rulesIn R * fieldsOf R * 2 ≡ length (R .numbers) → ⊥) → shapeFault R ≡ refused BadLength
   unfolding shapeFault
-  shape-2 odd =
+  shape-part-rule odd =
       let left : length (R .numbers) % (fieldsOf R * 2) ≡ 0 → ⊥ = λ e. odd (sym (whole-length R e)) in
       rw (le-ltb (fieldsOf R) 1 some, le-ltb 8 (fieldsOf R) few, ne-eqb (length (R .numbers) % (fieldsOf R * 2)) 0 left)
 
 module _ (R : Rules) (some : 1 ≤ fieldsOf R) (few : fieldsOf R ≤ 8) (whole : rulesIn R * fieldsOf R * 2 ≡ length (R .numbers)) where
   -- past 1 and 2
-  at-3 : shapeFault R ≡ pick (ltb 1024 (rulesIn R)) (refused TooManyRules) none
+  by-rules-alone : shapeFault R ≡ pick (ltb 1024 (rulesIn R)) (refused TooManyRules) none
   unfolding shapeFault
-  at-3 =
+  by-rules-alone =
       rw
       (le-ltb (fieldsOf R) 1 some, le-ltb 8 (fieldsOf R) few, eq-eqb (length (R .numbers) % (fieldsOf R * 2)) 0 (length-whole R whole))
 
-  pub shape-3 : 1024 < rulesIn R → shapeFault R ≡ refused TooManyRules
-  shape-3 many = rw (at-3, lt-ltb 1024 (rulesIn R) many)
+  pub shape-many-rules : 1024 < rulesIn R → shapeFault R ≡ refused TooManyRules
+  shape-many-rules many = rw (by-rules-alone, lt-ltb 1024 (rulesIn R) many)
 
   pub shape-stands : rulesIn R ≤ 1024 → shapeFault R ≡ none
-  shape-stands few-rules = rw (at-3, le-ltb 1024 (rulesIn R) few-rules)
+  shape-stands few-rules = rw (by-rules-alone, le-ltb 1024 (rulesIn R) few-rules)
 
 -- the same, of n as worked out by a callee
 module _ (R : Rules) (m : ℕ) (is-n : m ≡ rulesIn R) (some : 1 ≤ fieldsOf R) (few : fieldsOf R ≤ 8) where
-  pub counted-2 : (m * fieldsOf R * 2 ≡ length (R .numbers) → ⊥) → shapeFault R ≡ refused BadLength
-  counted-2 odd = shape-2 R some few (λ e. odd (rw is-n e))
+  pub counted-part-rule : (m * fieldsOf R * 2 ≡ length (R .numbers) → ⊥) → shapeFault R ≡ refused BadLength
+  counted-part-rule odd = shape-part-rule R some few (λ e. odd (rw is-n e))
 
-  pub counted-3 : m * fieldsOf R * 2 ≡ length (R .numbers) → 1024 < m → shapeFault R ≡ refused TooManyRules
-  counted-3 whole many = shape-3 R some few (rw is-n at whole) (rw is-n at many)
+  pub counted-many-rules : m * fieldsOf R * 2 ≡ length (R .numbers) → 1024 < m → shapeFault R ≡ refused TooManyRules
+  counted-many-rules whole many = shape-many-rules R some few (rw is-n at whole) (rw is-n at many)
 
   pub counted-stands : m * fieldsOf R * 2 ≡ length (R .numbers) → m ≤ 1024 → shapeFault R ≡ none
   counted-stands whole few-rules = shape-stands R some few (rw is-n at whole) (rw is-n at few-rules)

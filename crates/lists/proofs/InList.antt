@@ -14,7 +14,8 @@ use borrow.Author.Tests.{lt-ltb, le-ltb, ltb-true, ltb-false, leb-true, leb-fals
 use Rattle.ranges.specs.Numbers.{_and_, _or_}
 use Rattle.ranges.proofs.Numbers.{never, and-left, and-right}
 use Rattle.lists.specs.Limits.{mostFields}
-use Rattle.lists.specs.Rules.{Rules, fieldsOf, rulesIn, cellOf, Shaped, HasRule}
+use Rattle.lists.specs.Rules.{Rules, fieldsOf, rulesIn, offsetOf, Shaped}
+use Rattle.lists.specs.Asked.{HasRule}
 use Rattle.lists.specs.Faults.{inList}
 use Rattle.lists.proofs.Rules.{rules-within, rule-within, rule-past}
 
@@ -29,16 +30,16 @@ module _ (R : Rules) (i : ℕ) where
   in-many-fields some many = rw (le-ltb (fieldsOf R) 1 some, lt-ltb mostFields (fieldsOf R) many)
 
 -- at is where the rule's last field ends
-pub in-by : (R : Rules) (i at : ℕ) → 1 ≤ fieldsOf R → fieldsOf R ≤ mostFields → at ≡ cellOf (fieldsOf R) i (fieldsOf R)
+pub in-by : (R : Rules) (i at : ℕ) → 1 ≤ fieldsOf R → fieldsOf R ≤ mostFields → at ≡ offsetOf (fieldsOf R) i (fieldsOf R)
     → leb at (length (R .numbers)) ≡ inList R i
 unfolding inList
-in-by R i at some few is-cell = go (leb at (length (R .numbers))) refl
+in-by R i at some few is-offset = go (leb at (length (R .numbers))) refl
   where
     go : (t : Bool) → leb at (length (R .numbers)) ≡ t → t ≡ not (ltb (fieldsOf R) 1 or ltb mostFields (fieldsOf R)) and ltb i (rulesIn R)
     go true e =
-        rw (le-ltb (fieldsOf R) 1 some, le-ltb mostFields (fieldsOf R) few, lt-ltb i (rulesIn R) (rule-within R i at some is-cell (leb-true at (length (R .numbers)) e)))
+        rw (le-ltb (fieldsOf R) 1 some, le-ltb mostFields (fieldsOf R) few, lt-ltb i (rulesIn R) (rule-within R i at some is-offset (leb-true at (length (R .numbers)) e)))
     go false e =
-        rw (le-ltb (fieldsOf R) 1 some, le-ltb mostFields (fieldsOf R) few, le-ltb i (rulesIn R) (rule-past R i at some is-cell (leb-false at (length (R .numbers)) e)))
+        rw (le-ltb (fieldsOf R) 1 some, le-ltb mostFields (fieldsOf R) few, le-ltb i (rulesIn R) (rule-past R i at some is-offset (leb-false at (length (R .numbers)) e)))
 
 -- ---- what it says
 pub record Listed (R : Rules) (i : ℕ) : Type 0 where
@@ -72,7 +73,7 @@ module _ (R : Rules) (i : ℕ) where
   in-yes l = rw (le-ltb (fieldsOf R) 1 (l .some-fields), le-ltb mostFields (fieldsOf R) (l .few-fields)) (lt-ltb i (rulesIn R) (l .rule))
 
   pub listed-rule : Listed R i → HasRule R i
-  unfolding cellOf
+  unfolding offsetOf
   listed-rule l =
       record {
         few-fields = l .few-fields;

@@ -7,6 +7,7 @@
 -- Sound: what a list is that meets none of 1 to 4.
 -- Fitting: of what fits a header.
 -- Meeting: of rules that one header can fit.
+-- Pairs: which pair order independence names.
 -- Answers: what an answer says tells it apart from every other.
 -- Determined: any two results that a public contract allows are equal.
 -- Theorems: the statements on check, scan and order independence.
@@ -18,6 +19,7 @@ pub mod Voids
 pub mod Sound
 pub mod Fitting
 pub mod Meeting
+pub mod Pairs
 pub mod Answers
 pub mod Determined
 pub mod Theorems

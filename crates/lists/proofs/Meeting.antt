@@ -1,25 +1,26 @@
--- Laws of rules that meet (`specs/Independence.antt`): in a field, in every field, and which pair is the least.
+-- Laws of rules that meet (`specs/Independence.antt`): in a field, in every field, and the search for a pair that does.
 --     meet-read                     the code's test of one field
 --     sought-none, sought-more      the search for a rule's partner: where it begins, and after a turn
 --     sought-met, sought-end        its ways out; `no-partner` says what the last means for the rule
 --     pair-both, pair-none          the ways out of the search for a pair
 --     fits-meet, meet-fits          two rules without a void range meet exactly when one header fits both
---     partner-meets, partner-past, paired-past      what the least pair is
+--     sharedHeader                  that header: eight numbers, bounded by what bounds the list's (`shared-length`, `shared-below`)
 -- Assumes nothing.
 use Prim.Native.Nat.{ℕ, zero, suc, max, _+_, _≤_, _<_, suc-le-suc}
 use mathlib.Core.Bool.{Bool, true, false}
 use mathlib.Core.List.{List}
 use mathlib.Core.Path.{_≡_, refl, _∙_}
 use native.Mathlib.Omega.{arith}
-use lib.ListN.{getD}
+use lib.ListN.{length, getD}
 use lib.Dec.{ltb}
 use native.Mathlib.Nat.{le-max-left, le-max-right, max-le, le-of-suc-le-suc}
-use borrow.Author.Tests.{lt-ltb, le-ltb, ltb-true, ltb-false}
-use Rattle.ranges.specs.Numbers.{least, tab}
+use borrow.Author.Tests.{lt-ltb, le-ltb, ltb-true}
+use Rattle.ranges.specs.Numbers.{tab}
 use Rattle.ranges.specs.Sides.{meetOf}
 use Rattle.ranges.specs.declared.side.Range.{Range}
-use Rattle.ranges.proofs.Numbers.{and-left, and-right, and-both, all-yes, all-at, least-hit, least-under, tab-at}
-use Rattle.lists.specs.Rules.{Rules, fieldsOf, rulesIn, lowOf, endsAt, rangeAt}
+use Rattle.ranges.proofs.Numbers.{and-left, and-right, and-both, all-yes, all-at, tab-length, tab-at}
+use Rattle.lists.specs.Rules.{Rules, fieldsOf, rulesIn, offsetOf, lowOf, endsAt, rangeAt}
+use Rattle.lists.specs.Headers.{headerLength}
 use Rattle.lists.specs.FirstMatch.{fits}
 use Rattle.lists.specs.Independence.{meetAt, meet, partners, partnerOf, hasPartner, paired, pairOf}
 use Rattle.lists.specs.declared.independence.Pair.the-variants.{Independent, Both}
@@ -100,15 +101,29 @@ module _ (R : Rules) (i j : ℕ) where
       (lt-ltb (lowOf R j f) (endsAt R i f) j-before))
 
 -- a bound on the greater of two numbers
-pub max-lt : {a b : ℕ} (k : ℕ) → a < k → b < k → max a b < k
+max-lt : {a b : ℕ} (k : ℕ) → a < k → b < k → max a b < k
 max-lt zero a-lt b-lt = absurd (omega arith)
 max-lt (suc k) a-lt b-lt = suc-le-suc (max-le (le-of-suc-le-suc a-lt) (le-of-suc-le-suc b-lt))
 
 -- the header whose numbers are the greater of the two lows, field by field
 unfoldable pub sharedHeader : Rules → ℕ → ℕ → List ℕ
-sharedHeader R i j = tab 8 (λ f. max (lowOf R i f) (lowOf R j f))
+sharedHeader R i j = tab headerLength (λ f. max (lowOf R i f) (lowOf R j f))
 
-module _ (R : Rules) (i j : ℕ) (few : fieldsOf R ≤ 8) (sound-i : SoundRule R i) (sound-j : SoundRule R j) (met : meet R i j ≡ true) where
+module _ (R : Rules) (i j : ℕ) where
+  shared-at : (f : ℕ) → f < headerLength → getD (sharedHeader R i j) f 0 ≡ max (lowOf R i f) (lowOf R j f)
+  unfolding sharedHeader
+  shared-at f lt = tab-at (λ g. max (lowOf R i g) (lowOf R j g)) headerLength f lt
+
+  pub shared-length : length (sharedHeader R i j) ≡ headerLength
+  unfolding sharedHeader
+  shared-length = tab-length (λ f. max (lowOf R i f) (lowOf R j f)) headerLength
+
+  -- what is above all of the list's numbers is above the header's
+  pub shared-below : (k : ℕ) → ((m : ℕ) → getD (R .numbers) m 0 < k) → (f : ℕ) → f < headerLength → getD (sharedHeader R i j) f 0 < k
+  unfolding lowOf
+  shared-below k below f lt = rw (shared-at f lt) (max-lt k (below (offsetOf (fieldsOf R) i f)) (below (offsetOf (fieldsOf R) j f)))
+
+module _ (R : Rules) (i j : ℕ) (few : fieldsOf R ≤ headerLength) (sound-i : SoundRule R i) (sound-j : SoundRule R j) (met : meet R i j ≡ true) where
   -- each of the two ends is past both lows
   past-lows : (f : ℕ) → f < fieldsOf R → (max (lowOf R i f) (lowOf R j f) < endsAt R i f) × (max (lowOf R i f) (lowOf R j f) < endsAt R j f)
   unfolding meet
@@ -120,36 +135,11 @@ module _ (R : Rules) (i j : ℕ) (few : fieldsOf R ≤ 8) (sound-i : SoundRule R
       let j-before = ltb-true (lowOf R j f) (endsAt R i f) (and-right i-test j-test here) in
       (max-lt (endsAt R i f) (sound-i f lt) j-before, max-lt (endsAt R j f) i-before (sound-j f lt))
 
-  shared-at : (f : ℕ) → f < fieldsOf R → getD (sharedHeader R i j) f 0 ≡ max (lowOf R i f) (lowOf R j f)
-  unfolding sharedHeader
-  shared-at f lt = tab-at (λ g. max (lowOf R i g) (lowOf R j g)) 8 f (omega arith)
+  at-field : (f : ℕ) → f < fieldsOf R → getD (sharedHeader R i j) f 0 ≡ max (lowOf R i f) (lowOf R j f)
+  at-field f lt = shared-at R i j f (omega arith)
 
   pub meet-fits : (fits R (sharedHeader R i j) i ≡ true) × (fits R (sharedHeader R i j) j ≡ true)
   meet-fits = (
-    inside-fits R (sharedHeader R i j) i (λ f lt. rw (shared-at f lt) (le-max-left (lowOf R i f) (lowOf R j f), past-lows f lt .0)),
-    inside-fits R (sharedHeader R i j) j (λ f lt. rw (shared-at f lt) (le-max-right (lowOf R i f) (lowOf R j f), past-lows f lt .1)),
+    inside-fits R (sharedHeader R i j) i (λ f lt. rw (at-field f lt) (le-max-left (lowOf R i f) (lowOf R j f), past-lows f lt .0)),
+    inside-fits R (sharedHeader R i j) j (λ f lt. rw (at-field f lt) (le-max-right (lowOf R i f) (lowOf R j f), past-lows f lt .1)),
   )
-
--- ---- what the least pair is
-module _ (R : Rules) (i : ℕ) where
-  -- a partner comes after i and meets it
-  pub partner-meets : partnerOf R i < rulesIn R → (i < partnerOf R i) × (meet R i (partnerOf R i) ≡ true)
-  unfolding partnerOf
-  partner-meets lt =
-      let j = least (rulesIn R) (partners R i) in
-      let hit = least-hit (partners R i) (rulesIn R) lt in
-      (ltb-true i j (and-left (ltb i j) (meet R i j) hit), and-right (ltb i j) (meet R i j) hit)
-
-  -- a rule after i and before its partner does not meet it
-  pub partner-past : (l : ℕ) → l < partnerOf R i → i < l → meet R i l ≡ false
-  unfolding partnerOf
-  partner-past l under after =
-      rw (lt-ltb i l after) at (least-under (partners R i) (rulesIn R) l under)
-
--- a rule before the least that has a partner meets none after it
-pub paired-past : (R : Rules) (k l : ℕ) → k < paired R → k < l → l < rulesIn R → meet R k l ≡ false
-unfolding paired
-paired-past R k l under after lt =
-    let none = least-under (hasPartner R) (rulesIn R) k under in
-    let past = ltb-false (partnerOf R k) (rulesIn R) none in
-    partner-past R k l (omega arith) after

@@ -2,8 +2,8 @@
 --     Shaped           d is 1 to 8, the list has 2d numbers a rule, and at most 1,024 rules
 --     rules-none, rules-halved      n as the code works it out
 --     whole-length, length-whole    the list has 2d numbers a rule, either way round
---     cell-inside      of such a list, the low and the high of each field of each rule stand in it
---     has-rule, has-cell            the same, as the records that the contracts of the leaves ask for
+--     offset-inside      of such a list, the low and the high of each field of each rule stand in it
+--     has-rule, has-field            the same, as the records that the contracts of the leaves ask for
 --     rule-within, rule-past        which rules a list has, by where a rule's last field ends
 --     range-read                    the range made of what is read where a callee said that a rule's low stands
 --     square-few       a product of two numbers of 16 bits is far below a word
@@ -14,7 +14,8 @@ use native.Mathlib.Omega.{arith}
 use native.Mathlib.Nat.{mul-le-mul, mul-le-mul-right, div-add-mod', div-mul-le-self, div-div-eq-div-mul, div-zero, mul-assoc, mul-comm, mul-mod-left, le-div-iff-mul-le, div-lt-iff-lt-mul, le-of-suc-le-suc}
 use lib.ListN.{length, getD}
 use Rattle.ranges.specs.Sides.{closedAt}
-use Rattle.lists.specs.Rules.{Rules, fieldsOf, rulesIn, cellOf, lowOf, highOf, endsAt, rangeAt, HasRule, HasCell}
+use Rattle.lists.specs.Rules.{Rules, fieldsOf, rulesIn, offsetOf, lowOf, highOf, endsAt, rangeAt}
+use Rattle.lists.specs.Asked.{HasRule, HasField}
 pub use Rattle.lists.specs.Rules.{Shaped}
 
 -- a length that is a multiple of 2d is n * d * 2
@@ -52,24 +53,24 @@ rules-halved R = div-div-eq-div-mul (length (R .numbers)) 2 (fieldsOf R) ∙ ap 
 pub row-inside : (d i n f : ℕ) → i < n → f < d → i * d + f < n * d
 row-inside d i n f lt in-row = omega (arith, mul-le-mul-right d lt)
 
-pub cell-inside : (R : Rules) → Shaped R → (i f : ℕ) → i < rulesIn R → f < fieldsOf R → cellOf (fieldsOf R) i f + 1 < length (R .numbers)
-unfolding cellOf
-cell-inside R s i f lt in-row = omega (arith, row-inside (fieldsOf R) i (rulesIn R) f lt in-row, s .whole)
+pub offset-inside : (R : Rules) → Shaped R → (i f : ℕ) → i < rulesIn R → f < fieldsOf R → offsetOf (fieldsOf R) i f + 1 < length (R .numbers)
+unfolding offsetOf
+offset-inside R s i f lt in-row = omega (arith, row-inside (fieldsOf R) i (rulesIn R) f lt in-row, s .whole)
 
 -- each rule of such a list stands in it, and each field of a rule that does
 pub has-rule : {R : Rules} → Shaped R → {i : ℕ} → i < rulesIn R → HasRule R i
-unfolding cellOf
+unfolding offsetOf
 has-rule {R} s {i} lt = record { few-fields = s .few-fields; within = omega (arith, mul-le-mul-right (fieldsOf R) lt, s .whole) }
 
-pub has-cell : {R : Rules} {i : ℕ} → HasRule R i → {f : ℕ} → f < fieldsOf R → HasCell R i f
-unfolding cellOf
-has-cell {R} {i} has {f} lt = record { few-fields = has .few-fields; field = lt; within = omega (arith, has .within) }
+pub has-field : {R : Rules} {i : ℕ} → HasRule R i → {f : ℕ} → f < fieldsOf R → HasField R i f
+unfolding offsetOf
+has-field {R} {i} has {f} lt = record { few-fields = has .few-fields; field = lt; within = omega (arith, has .within) }
 
 -- a rule whose last field ends within the list is one of its rules, and one whose last field does not is none
-module _ (R : Rules) (i at : ℕ) (some : 1 ≤ fieldsOf R) (is-cell : at ≡ cellOf (fieldsOf R) i (fieldsOf R)) where
+module _ (R : Rules) (i at : ℕ) (some : 1 ≤ fieldsOf R) (is-offset : at ≡ offsetOf (fieldsOf R) i (fieldsOf R)) where
   row-ends : at ≡ suc i * (fieldsOf R * 2)
-  unfolding cellOf
-  row-ends = omega (arith, is-cell, mul-assoc (suc i) (fieldsOf R) 2)
+  unfolding offsetOf
+  row-ends = omega (arith, is-offset, mul-assoc (suc i) (fieldsOf R) 2)
 
   pub rule-within : at ≤ length (R .numbers) → i < rulesIn R
   unfolding rulesIn
@@ -84,10 +85,10 @@ module _ (R : Rules) (i at : ℕ) (some : 1 ≤ fieldsOf R) (is-cell : at ≡ ce
       le-of-suc-le-suc (div-lt-iff-lt-mul room .1 (rw row-ends at lt))
 
 -- what is read where a callee said that the low of field f of rule i stands, and one further
-module _ (R : Rules) (i f at : ℕ) (is-cell : at ≡ cellOf (fieldsOf R) i f) where
+module _ (R : Rules) (i f at : ℕ) (is-offset : at ≡ offsetOf (fieldsOf R) i f) where
   pub range-read : closedAt (getD (R .numbers) at 0) (getD (R .numbers) (at + 1) 0) ≡ rangeAt R i f
   unfolding lowOf highOf endsAt
-  range-read = rw is-cell
+  range-read = rw is-offset
 
 -- a product of two numbers of 16 bits, whatever they are
 pub square-few : (d i : ℕ) → d < 2 ^ 16 → i < 2 ^ 16 → i * d ≤ 4294836225

@@ -2,16 +2,16 @@
 --     Sound                        low is less than the first number past the range, in each field of each rule
 --     ends-sound, sound-ends       a list that does not meet 4 is sound, and a sound one does not meet 4
 --     list-shaped, list-sound      of a list that meets none of 1 to 4: its shape, its ranges
---     Accepted                     both at once; `list-accepted`, `accepted-none`: exactly the lists that meet none of 1 to 4
+--     Accepted                     both at once; `list-accepted`, `stands-accepted`, `accepted-none`: exactly the lists that meet none of 1 to 4
 -- Assumes nothing.
 use Prim.Native.Nat.{ℕ, _≤_, _<_}
 use mathlib.Core.Bool.{Bool, true, false}
 use mathlib.Core.Path.{_≡_, refl, sym}
 use native.Mathlib.Omega.{arith}
 use lib.Dec.{ltb}
-use borrow.Author.Tests.{ltb-false}
+use borrow.Author.Tests.{ltb-false, eqb-true}
 use Rattle.ranges.specs.Numbers.{pick, least}
-use Rattle.ranges.specs.Refusals.{none, refusedAt, LowAboveHigh}
+use Rattle.ranges.specs.Refusals.{none, stands, refusedAt, LowAboveHigh}
 use Rattle.ranges.proofs.Numbers.{least-under}
 use Rattle.lists.specs.Rules.{Rules, fieldsOf, rulesIn, lowOf, endsAt, isVoid, Shaped}
 use Rattle.lists.specs.Faults.{shapeFault, badRule, endsFault, listFault}
@@ -58,6 +58,10 @@ pub record Accepted (R : Rules) : Type 0 where
 module _ (R : Rules) where
   pub list-accepted : listFault R .number ≡ 0 → Accepted R
   list-accepted z = record { shape = list-shaped R z; ranges = list-sound R z }
+
+  -- the same from the test that lets an answer be given
+  pub stands-accepted : stands (listFault R) ≡ true → Accepted R
+  stands-accepted e = list-accepted (eqb-true (listFault R .number) 0 e)
 
   pub shaped-none : Shaped R → shapeFault R ≡ none
   shaped-none s = shape-stands R (s .some-fields) (s .few-fields) (sym (s .whole)) (s .few-rules)

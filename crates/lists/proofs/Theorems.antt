@@ -1,50 +1,53 @@
 -- What a reader may rely on of lists (layer 2). The statements, R a list with its shape and h a header:
 --
---     T6  check-is-n-iff        a check answers n exactly when none of 1 to 4 applies
---         check-4-iff           it refuses by 4 at (i, f) exactly when the shape stands, low > high there, and in no rule or field before
---     T7  scan-rule-iff         a scan answers rule i exactly when none of 1 to 4 applies, i fits, and no rule before i fits
---         scan-nothing-iff      it answers none exactly when none of 1 to 4 applies and no rule fits
---         rule-fits-iff         one rule's test answers yes exactly when d is 1 to 8, the list has the rule, and all d numbers are in its ranges
---         scan-unread           headers that agree on the first d numbers get the same answer; `fits-in-unread`: of one rule, too
---     T8  independent-iff       the answer is yes exactly when none of 1 to 4 applies and no header at all fits two different rules
---         pair-iff              it is the pair (i, j) exactly when a header fits both, and no pair before (i, j) is fitted by one
---         pair-header           the header of the greater lows fits both; it has eight numbers, of 32 bits where the list's are
+--     T6  check-is-n-iff          a check answers n exactly when none of 1 to 4 applies
+--         check-4-iff             it refuses by 4 at (i, f) exactly when the shape stands, low > high there, and in no rule or field before
+--     T7  scan-rule-iff           a scan answers rule i exactly when none of 1 to 4 applies, i fits, and no rule before i fits
+--         scan-nothing-iff        it answers none exactly when none of 1 to 4 applies and no rule fits
+--         rule-fits-iff           one rule's test answers yes exactly when d is 1 to 8, the list has the rule, and all d numbers are in its ranges
+--         scan-unread             headers that agree on the first d numbers get the same answer; `fits-in-unread`: of one rule, too
+--     T8  independent-iff         the answer is yes exactly when none of 1 to 4 applies and no header at all fits two different rules
+--         pair-iff                it is (i, j) exactly when none of 1 to 4 applies, a header fits both, and no pair before (i, j) is fitted by one
+--         independent-words-iff   both of a list of 32-bit numbers, the headers being those of eight 32-bit numbers alone: yes exactly when none
+--                                 of 1 to 4 applies and no such header fits two different rules;
+--         pair-words-iff          (i, j) exactly when none applies, such a header fits both, and no pair before is fitted by one
+--         pair-header             the header of the greater lows fits both; it has eight numbers, of 32 bits where the list's are
 --
 -- The contracts of `check_list`, `plain_scan`, `rule_fits` and `independence` are equations with the definitions named here, so each
--- statement is one on the function. A header is any list of numbers: what is said of every header holds of eight of 32 bits.
+-- statement is one on the function. A header is any list of numbers, but for the two statements of T8 that say otherwise: what is said of
+-- every header holds of eight numbers of 32 bits.
 -- Assumes nothing.
-use Prim.Native.Nat.{ℕ, max, _^_, _≤_, _<_}
-use mathlib.Core.Bool.{Bool, true, false, not}
+use Prim.Native.Nat.{ℕ, _^_, _≤_, _<_}
+use mathlib.Core.Bool.{true, false}
 use mathlib.Core.List.{List}
 use mathlib.Core.Logic.{_↔_}
-use mathlib.Core.Path.{_≡_, refl, sym, ap}
+use mathlib.Core.Path.{_≡_, sym, ap}
 use native.Mathlib.Omega.{arith}
 use lib.Dec.{ltb}
 use lib.ListN.{length, getD}
-use borrow.Author.Tests.{lt-ltb, le-ltb, ltb-true, ltb-false, le-leb, lt-leb, leb-true, leb-false, eqb-true, not-true}
-use Rattle.ranges.specs.Numbers.{_and_, _or_, least}
+use borrow.Author.Tests.{lt-ltb, le-ltb, ltb-true, ltb-false, le-leb, lt-leb, leb-true, leb-false, eqb-true}
+use Rattle.ranges.specs.Numbers.{least}
 use Rattle.ranges.specs.Refusals.{none, stands, refusedAt, LowAboveHigh}
 use Rattle.ranges.specs.declared.refusal.Refusal.{Refusal}
 use Rattle.ranges.specs.declared.refusal.Count.the-variants.{Is, Refused as CountRefused}
-use Rattle.ranges.proofs.Numbers.{never, picked, not-picked, and-left, and-right, true-not-false, least-is, least-none, least-hit, least-under, tab-length, tab-at}
-use Rattle.lists.specs.Rules.{Rules, Shaped, fieldsOf, rulesIn, cellOf, lowOf, endsAt, isVoid}
+use Rattle.ranges.proofs.Numbers.{never, picked, not-picked, and-left, and-right, least-is, least-none, least-hit, least-under}
+use Rattle.lists.specs.Rules.{Rules, Shaped, fieldsOf, rulesIn, lowOf, endsAt, isVoid}
 use Rattle.lists.specs.Faults.{inList, shapeFault, endsFault, listFault, badRule}
 use Rattle.lists.specs.Check.{checkOf}
+use Rattle.lists.specs.Headers.{headerLength, IsHeader}
 use Rattle.lists.specs.FirstMatch.{fits, firstMatch}
 use Rattle.lists.specs.Scan.{fitsIn, matchOf, scanOf}
-use Rattle.lists.specs.Independence.{meet, partners, partnerOf, hasPartner, paired, pairOf, independenceOf}
+use Rattle.lists.specs.Independence.{meet, independenceOf}
 use Rattle.lists.specs.declared.scan.Match.the-variants.{Rule, Nothing, Refused as MatchRefused}
-use Rattle.lists.specs.declared.independence.Pair.the-variants.{Independent, Both, Refused as PairRefused}
+use Rattle.lists.specs.declared.independence.Pair.the-variants.{Independent, Both}
 use Rattle.lists.proofs.InList.{Listed, in-told, in-yes}
 use Rattle.lists.proofs.Faults.{shaped, shape-few}
 use Rattle.lists.proofs.Voids.{bad, bad-field, ends-4, SoundRule, not-bad}
-use Rattle.lists.proofs.Sound.{Accepted, list-accepted, accepted-none, shaped-none, sound-answered}
+use Rattle.lists.proofs.Sound.{Accepted, stands-accepted, accepted-none, shaped-none, sound-answered}
 use Rattle.lists.proofs.Fitting.{Inside, fits-inside, inside-fits, fits-same, first-same}
-use Rattle.lists.proofs.Meeting.{sharedHeader, max-lt, fits-meet, meet-fits, partner-meets, partner-past, paired-past}
-
--- the answer was picked because nothing is refused
-stands-accepted : (R : Rules) → stands (listFault R) ≡ true → Accepted R
-stands-accepted R e = list-accepted R (eqb-true (listFault R .number) 0 e)
+use Rattle.lists.proofs.Meeting.{sharedHeader, shared-length, shared-below, fits-meet, meet-fits}
+use Rattle.lists.proofs.Pairs.{WhenMeet, independent-share-iff, pair-share-iff}
+pub use Rattle.lists.proofs.Pairs.{LeastPair}
 
 -- ---- T6
 -- a check answers n exactly when none of 1 to 4 applies: it refuses nothing else, and lets none of them pass
@@ -78,6 +81,7 @@ void-here R b s lt is-bad under =
       fields-before = λ g below. leb-false (endsAt R b g) (lowOf R b g) (least-under (isVoid R b) (fieldsOf R) g below);
     }
 
+-- so 4 is given at no other place
 ends-least : (R : Rules) (i f : ℕ) → Shaped R → endsFault R ≡ refusedAt LowAboveHigh i f → LeastVoid R i f
 unfolding endsFault badRule
 ends-least R i f s e =
@@ -131,6 +135,7 @@ pub record First (R : Rules) (h : List ℕ) (i : ℕ) : Type 0 where
   pub here : fits R h i ≡ true
   pub before : (k : ℕ) → k < i → fits R h k ≡ false
 
+-- the least rule number that fits is such a rule, and the only one
 first-here : (R : Rules) (h : List ℕ) → firstMatch R h < rulesIn R → First R h (firstMatch R h)
 unfolding firstMatch
 first-here R h lt =
@@ -188,134 +193,72 @@ module _ (R : Rules) (h g : List ℕ) (agree : (f : ℕ) → f < fieldsOf R → 
   fits-in-unread i = rw (fits-same R h g agree i)
 
 -- ---- T8
--- no header fits both rules
-abbrev pub Apart : Rules → ℕ → ℕ → Type 0
-Apart R i j = (h : List ℕ) → fits R h i ≡ true → fits R h j ≡ true → ⊥
+-- rules i and j share a header: some list of numbers fits both
+abbrev pub Shared : Rules → ℕ → ℕ → Type 0
+Shared R i j = (h : List ℕ) × (fits R h i ≡ true) × (fits R h j ≡ true)
 
--- rules that do not meet are apart; and two rules of a sound list that are apart do not meet, else the shared header would fit both
-not-met-apart : (R : Rules) (i j : ℕ) → meet R i j ≡ false → Apart R i j
-not-met-apart R i j not-met h fits-i fits-j = true-not-false (fits-meet R i j h fits-i fits-j) not-met
+-- they share one of eight 32-bit numbers
+abbrev pub SharedWords : Rules → ℕ → ℕ → Type 0
+SharedWords R i j = (h : List ℕ) × IsHeader h × (fits R h i ≡ true) × (fits R h j ≡ true)
 
+-- each number of the list is of 32 bits
+abbrev pub Words : Rules → Type 0
+Words R = (k : ℕ) → getD (R .numbers) k 0 < 2 ^ 32
+
+-- of rules that meet, the header of the greater lows fits both ..
 shared-fits : (R : Rules) → Accepted R → (i j : ℕ) → i < rulesIn R → j < rulesIn R → meet R i j ≡ true
     → (fits R (sharedHeader R i j) i ≡ true) × (fits R (sharedHeader R i j) j ≡ true)
 shared-fits R s i j i-rule j-rule met = meet-fits R i j (s .shape .few-fields) (λ f. s .ranges .ends i f i-rule) (λ f. s .ranges .ends j f j-rule) met
 
-apart-not-met : (R : Rules) → Accepted R → (i j : ℕ) → i < rulesIn R → j < rulesIn R → Apart R i j → meet R i j ≡ false
-apart-not-met R s i j i-rule j-rule apart = go (meet R i j) refl
-  where
-    go : (t : Bool) → meet R i j ≡ t → meet R i j ≡ false
-    go true met = let both = shared-fits R s i j i-rule j-rule met in absurd (apart (sharedHeader R i j) (both .0) (both .1))
-    go false not-met = not-met
+-- .. and is eight 32-bit numbers where the list's are of 32 bits
+shared-is-header : (R : Rules) → Words R → (i j : ℕ) → IsHeader (sharedHeader R i j)
+shared-is-header R words i j = record { eight = shared-length R i j; words = shared-below R i j (2 ^ 32) words }
 
--- a rule l that is apart from rule i, if it comes later, is no partner of it
-apart-no-partner : (R : Rules) → Accepted R → (i l : ℕ) → i < rulesIn R → l < rulesIn R → (i < l → Apart R i l) → partners R i l ≡ false
-apart-no-partner R s i l i-rule l-rule apart = go (ltb i l) refl
-  where
-    go : (t : Bool) → ltb i l ≡ t → t and meet R i l ≡ false
-    go true e = apart-not-met R s i l i-rule l-rule (apart (ltb-true i l e))
-    go false e = refl
-
--- a rule that is apart from every later one has none
-no-partner-of : (R : Rules) → Accepted R → (i : ℕ) → i < rulesIn R → ((l : ℕ) → i < l → l < rulesIn R → Apart R i l) → hasPartner R i ≡ false
-unfolding partnerOf
-no-partner-of R s i rule apart =
-    let n = rulesIn R in
-    let none-is = least-none (partners R i) n (λ l lt. apart-no-partner R s i l rule lt (λ later. apart l later lt)) in
-    le-ltb (least n (partners R i)) n (omega arith)
-
--- "yes" excludes every header, and is answered wherever every header is excluded
-pub independent-iff : (R : Rules)
-    → (independenceOf R ≡ Independent) ↔ (Accepted R × ((i j : ℕ) → i < j → j < rulesIn R → Apart R i j))
-unfolding paired
-independent-iff R =
-    let n = rulesIn R in (
-      λ e.
-          let told = picked (pairOf R) (PairRefused (listFault R)) Independent (stands (listFault R)) e (λ r. never (cc)) in
-          let past = not-picked (Both (paired R) (partnerOf R (paired R))) Independent Independent (ltb (paired R) n) (told .1) (λ r. never (cc)) .0 in
-          let over = ltb-false (paired R) n past in
-          (stands-accepted R (told .0), λ i j after lt. not-met-apart R i j (paired-past R i j (omega arith) after lt)),
-      λ p.
-          let alone = least-none (hasPartner R) n (λ i lt. no-partner-of R (p .0) i lt (p .1 i)) in
-          rw (accepted-none R (p .0), alone, le-ltb n n (omega arith)),
-    )
-
--- rules i < j, the smallest i and then the smallest j that some header fits
-pub record LeastPair (R : Rules) (i j : ℕ) : Type 0 where
-  pub accepted : Accepted R
-  pub after : i < j
-  pub rule : j < rulesIn R
-  pub both : (h : List ℕ) × (fits R h i ≡ true) × (fits R h j ≡ true)
-  pub rules-before : (k l : ℕ) → k < i → k < l → l < rulesIn R → Apart R k l
-  pub partners-before : (l : ℕ) → i < l → l < j → Apart R i l
-
-pair-here : (R : Rules) → Accepted R → paired R < rulesIn R → LeastPair R (paired R) (partnerOf R (paired R))
-unfolding paired
-pair-here R s lt =
-    let n = rulesIn R in
-    let i = least n (hasPartner R) in
-    let j = partnerOf R i in
-    let has : j < n = ltb-true j n (least-hit (hasPartner R) n lt) in
-    let meets = partner-meets R i has in
-    let fit = shared-fits R s i j lt has (meets .1) in
+-- so rules share a header exactly when they meet, among all headers and among those of eight 32-bit numbers
+shared-when : (R : Rules) → WhenMeet R (Shared R)
+shared-when R =
     record {
-      accepted = s;
-      after = meets .0;
-      rule = has;
-      both = (sharedHeader R i j, fit .0, fit .1);
-      rules-before = λ k l under later rule. not-met-apart R k l (paired-past R k l under later rule);
-      partners-before = λ l later under. not-met-apart R i l (partner-past R i l under later);
+      met = λ i j p. fits-meet R i j (p .0) (p .1) (p .2);
+      share = λ s i j i-rule j-rule met. let fit = shared-fits R s i j i-rule j-rule met in (sharedHeader R i j, fit .0, fit .1);
     }
 
-pair-one : (R : Rules) (i j : ℕ) → LeastPair R i j → (partnerOf R i ≡ j) × (paired R ≡ i)
-unfolding paired partnerOf
-pair-one R i j p =
-    let n = rulesIn R in
-    let i-rule : i < n = omega (arith, p .after, p .rule) in
-    let met = fits-meet R i j (p .both .0) (p .both .1) (p .both .2) in
-    let not-before : (l : ℕ) → l < j → partners R i l ≡ false =
-    λ l under. apart-no-partner R (p .accepted) i l i-rule (omega (arith, p .rule)) (λ later. p .partners-before l later under) in
-    let partner = least-is (partners R i) n j (p .rule) (rw (lt-ltb i j (p .after)) met) not-before in
-    let has : hasPartner R i ≡ true = rw partner (lt-ltb j n (p .rule)) in (
-      partner,
-      least-is (hasPartner R) n i i-rule has (λ k lt. no-partner-of R (p .accepted) k (omega arith) (λ l later rule. p .rules-before k l lt later rule)),
-    )
+shared-words-when : (R : Rules) → Words R → WhenMeet R (SharedWords R)
+shared-words-when R words =
+    record {
+      met = λ i j p. fits-meet R i j (p .0) (p .2) (p .3);
+      share = λ s i j i-rule j-rule met. let fit = shared-fits R s i j i-rule j-rule met in (sharedHeader R i j, shared-is-header R words i j, fit .0, fit .1);
+    }
 
--- the pair named is fitted by one header and no pair before it is; and such a pair is named
-pub pair-iff : (R : Rules) (i j : ℕ) → (independenceOf R ≡ Both i j) ↔ LeastPair R i j
-pair-iff R i j = (
-  λ e.
-      let told = picked (pairOf R) (PairRefused (listFault R)) (Both i j) (stands (listFault R)) e (λ r. never (cc)) in
-      let found = picked (Both (paired R) (partnerOf R (paired R))) Independent (Both i j) (ltb (paired R) (rulesIn R)) (told .1) (λ r. never (cc)) in
-      let is-i : paired R ≡ i = cc (found .1) in
-      let is-j : partnerOf R (paired R) ≡ j = cc (found .1) in
-      moved (paired R) (partnerOf R (paired R)) is-i is-j (pair-here R (stands-accepted R (told .0)) (ltb-true (paired R) (rulesIn R) (found .0))),
-  λ p.
-      let one = pair-one R i j p in
-      let i-rule : i < rulesIn R = omega (arith, p .after, p .rule) in
-      rw (accepted-none R (p .accepted), one .1, one .0, lt-ltb i (rulesIn R) i-rule),
-)
-  where
-    moved : (k l : ℕ) → k ≡ i → l ≡ j → LeastPair R k l → LeastPair R i j
-    moved k l is-i is-j here = rw (← is-i, ← is-j) here
+-- yes is answered exactly when nothing is refused and no two rules share a header
+pub independent-iff : (R : Rules)
+    → (independenceOf R ≡ Independent) ↔ (Accepted R × ((i j : ℕ) → i < j → j < rulesIn R → Shared R i j → ⊥))
+independent-iff R = independent-share-iff R (shared-when R)
 
--- a header that fits both rules of the pair: eight numbers, each the low of one of the two, so of 32 bits where the list's are
+-- a pair is named exactly when nothing is refused, it shares a header, and no pair before it does: none with a smaller i, nor with this i
+-- and a smaller j
+pub pair-iff : (R : Rules) (i j : ℕ) → (independenceOf R ≡ Both i j) ↔ LeastPair R (Shared R) i j
+pair-iff R = pair-share-iff R (shared-when R)
+
+-- the same of a list of 32-bit numbers, where a header is eight 32-bit numbers and nothing else: yes ..
+pub independent-words-iff : (R : Rules) → Words R
+    → (independenceOf R ≡ Independent) ↔ (Accepted R × ((i j : ℕ) → i < j → j < rulesIn R → SharedWords R i j → ⊥))
+independent-words-iff R words = independent-share-iff R (shared-words-when R words)
+
+-- .. and the pair
+pub pair-words-iff : (R : Rules) → Words R → (i j : ℕ) → (independenceOf R ≡ Both i j) ↔ LeastPair R (SharedWords R) i j
+pair-words-iff R words = pair-share-iff R (shared-words-when R words)
+
+-- h fits both rules of the pair; it is eight numbers, and of 32 bits each where the list's are
 pub record FitsBoth (R : Rules) (i j : ℕ) (h : List ℕ) : Type 0 where
-  pub eight : length h ≡ 8
+  pub eight : length h ≡ headerLength
   pub first : fits R h i ≡ true
   pub second : fits R h j ≡ true
-  pub words : ((k : ℕ) → getD (R .numbers) k 0 < 2 ^ 32) → (f : ℕ) → f < 8 → getD h f 0 < 2 ^ 32
+  pub words : Words R → IsHeader h
 
+-- a header that both rules of the pair named fit can be written down: in each field the greater of their lows
 pub pair-header : (R : Rules) (i j : ℕ) → independenceOf R ≡ Both i j → FitsBoth R i j (sharedHeader R i j)
-unfolding sharedHeader lowOf
 pair-header R i j e =
     let p = pair-iff R i j .0 e in
     let i-rule : i < rulesIn R = omega (arith, p .after, p .rule) in
-    let met = fits-meet R i j (p .both .0) (p .both .1) (p .both .2) in
-    let fit = shared-fits R (p .accepted) i j i-rule (p .rule) met in
-    let low : ℕ → ℕ = λ f. max (lowOf R i f) (lowOf R j f) in
-    record {
-      eight = tab-length low 8;
-      first = fit .0;
-      second = fit .1;
-      words = λ word f lt. rw (tab-at low 8 f lt) (max-lt (2 ^ 32) (word (cellOf (fieldsOf R) i f)) (word (cellOf (fieldsOf R) j f)));
-    }
+    let fit = shared-fits R (p .accepted) i j i-rule (p .rule) (shared-when R .met i j (p .both)) in
+    record { eight = shared-length R i j; first = fit .0; second = fit .1; words = λ words. shared-is-header R words i j }

@@ -1,3 +1,4 @@
+-- To be believed: what the contracts of public functions and the theorems say.
 pub mod Limits
 pub mod Rules
 pub mod Headers
@@ -6,3 +7,5 @@ pub mod Faults
 pub mod Check
 pub mod Scan
 pub mod Independence
+-- Scaffolding: what the contracts of private functions say.
+pub mod Asked

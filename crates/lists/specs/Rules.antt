@@ -3,7 +3,7 @@
 -- range in a field goes through `lowOf` and `endsAt`, the first number past it; proofs use the laws of
 -- `proofs/Rules.antt`.
 -- Assumes nothing: these are definitions.
-use Prim.Native.Nat.{ℕ, _+_, _*_, _/_, _≤_, _<_}
+use Prim.Native.Nat.{ℕ, _+_, _*_, _/_, _≤_}
 use mathlib.Core.Bool.{Bool}
 use mathlib.Core.List.{List}
 use mathlib.Core.Path.{_≡_}
@@ -35,16 +35,16 @@ rulesIn R = length (R .numbers) / (fieldsOf R * 2)
 
 -- where the low of field f of rule i stands, for rules of d fields; its high stands one further
 -- (in the bench list, d = 2, field 1 of rule 3 stands at 14 and 15)
-unfoldable pub cellOf : ℕ → ℕ → ℕ → ℕ
-cellOf d i f = (i * d + f) * 2
+unfoldable pub offsetOf : ℕ → ℕ → ℕ → ℕ
+offsetOf d i f = (i * d + f) * 2
 
 -- the low end of rule i in field f
 unfoldable pub lowOf : Rules → ℕ → ℕ → ℕ
-lowOf R i f = getD (R .numbers) (cellOf (fieldsOf R) i f) 0
+lowOf R i f = getD (R .numbers) (offsetOf (fieldsOf R) i f) 0
 
 -- its high end
 unfoldable pub highOf : Rules → ℕ → ℕ → ℕ
-highOf R i f = getD (R .numbers) (cellOf (fieldsOf R) i f + 1) 0
+highOf R i f = getD (R .numbers) (offsetOf (fieldsOf R) i f + 1) 0
 
 -- the first number past its range; nothing else says how a rule's range ends
 unfoldable pub endsAt : Rules → ℕ → ℕ → ℕ
@@ -64,14 +64,3 @@ pub record Shaped (R : Rules) : Type 0 where
   pub few-fields : fieldsOf R ≤ mostFields
   pub whole : length (R .numbers) ≡ rulesIn R * fieldsOf R * 2
   pub few-rules : rulesIn R ≤ mostRules
-
--- what private functions ask of their callers: rule i stands in the list up to its last field, of at most eight
-pub record HasRule (R : Rules) (i : ℕ) : Type 0 where
-  pub few-fields : fieldsOf R ≤ mostFields
-  pub within : cellOf (fieldsOf R) i (fieldsOf R) ≤ length (R .numbers)
-
--- field f of rule i stands in the list
-pub record HasCell (R : Rules) (i f : ℕ) : Type 0 where
-  pub few-fields : fieldsOf R ≤ mostFields
-  pub field : f < fieldsOf R
-  pub within : cellOf (fieldsOf R) i f + 1 < length (R .numbers)

@@ -10,13 +10,14 @@ use ranges::refusal::refuse;
 use ranges::side::is_void;
 ghost use mathlib.Core.Path.{_≡_};
 ghost use Rattle.ranges.specs.Numbers.{least};
-ghost use Rattle.lists.specs.Rules.{listed, isVoid, Shaped, HasRule, HasCell};
+ghost use Rattle.lists.specs.Rules.{listed, isVoid, Shaped};
+ghost use Rattle.lists.specs.Asked.{HasRule, HasField};
 ghost use Rattle.lists.specs.Faults.{endsFault, listFault};
 ghost use Rattle.lists.specs.Check.{checkOf};
 
 // Says whether the range of rule i in field f holds no number: low > high.
 fn void_at(shape: Shape, list: &[u32], i: u16, f: u16) -> bool
-    requires { ⌜ HasCell (listed shape (now list)) i f ⌝ }
+    requires { ⌜ HasField (listed shape (now list)) i f ⌝ }
     ensures { λ r. ⌜ r ≡ isVoid (listed shape (now (list .entry))) i f ⌝ }
 {
     is_void(range_at(shape, list, i, f))

@@ -7,7 +7,8 @@ use ranges::refusal::Refusal;
 use ranges::side::meets;
 ghost use mathlib.Core.Path.{_≡_};
 ghost use Prim.Native.Nat.{_<_};
-ghost use Rattle.lists.specs.Rules.{listed, rulesIn, Shaped, HasRule, HasCell};
+ghost use Rattle.lists.specs.Rules.{listed, rulesIn, Shaped};
+ghost use Rattle.lists.specs.Asked.{HasRule, HasField};
 ghost use Rattle.lists.specs.Independence.{meetAt, meet, partnerOf, pairOf, independenceOf};
 
 // What a test of order independence answers: yes, or the least pair of rules that one header fits; or a refusal.
@@ -19,7 +20,7 @@ pub enum Pair {
 
 // Says whether the ranges of rules i and j meet in field f: the low of each is before the other's end.
 fn meet_at(shape: Shape, list: &[u32], i: u16, j: u16, f: u16) -> bool
-    requires { ⌜ (HasCell (listed shape (now list)) i f) × (HasCell (listed shape (now list)) j f) ⌝ }
+    requires { ⌜ (HasField (listed shape (now list)) i f) × (HasField (listed shape (now list)) j f) ⌝ }
     ensures { λ r. ⌜ r ≡ meetAt (listed shape (now (list .entry))) i j f ⌝ }
 {
     meets(range_at(shape, list, i, f), range_at(shape, list, j, f))

@@ -4,7 +4,7 @@
 // order independence. The crates of sorting, lookup and the programs may cite it; it cites `ranges` alone.
 //
 // The list. A list is a lent run of numbers, 2d a rule: low and high of field 0, then of field 1, and so on.
-// `cell` alone knows where a rule's low stands; its high stands one further.
+// `offset_of` alone knows where a rule's low stands; its high stands one further.
 //
 // What it answers. `check_list` says how many rules a list has. `plain_scan` gives the first rule that fits a header,
 // and `rule_fits` says whether one rule does. `independence` says whether some header fits two rules, and which two

@@ -8,7 +8,8 @@ use ranges::refusal::Refusal;
 use ranges::side::Side;
 use ranges::side::side_of;
 ghost use mathlib.Core.Path.{_≡_};
-ghost use Rattle.lists.specs.Rules.{listed, Shaped, HasRule, HasCell};
+ghost use Rattle.lists.specs.Rules.{listed, Shaped};
+ghost use Rattle.lists.specs.Asked.{HasRule, HasField};
 ghost use Rattle.lists.specs.FirstMatch.{insideAt, fits, firstMatch};
 ghost use Rattle.lists.specs.Scan.{fitsIn, scanOf};
 
@@ -21,7 +22,7 @@ pub enum Match {
 
 // Says whether the header's number in field f lies inside the range of rule i.
 fn inside_at(shape: Shape, list: &[u32], i: u16, f: u16, header: &[u32; 8]) -> bool
-    requires { ⌜ HasCell (listed shape (now list)) i f ⌝ }
+    requires { ⌜ HasField (listed shape (now list)) i f ⌝ }
     ensures { λ r. ⌜ r ≡ insideAt (listed shape (now (list .entry))) (now (header .entry)) i f ⌝ }
 {
     let side = side_of(range_at(shape, list, i, f), header[f as usize]);

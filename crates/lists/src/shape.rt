@@ -6,7 +6,7 @@ use ranges::refusal::Refusal;
 use ranges::refusal::TOO_MANY_RULES;
 use ranges::refusal::refuse;
 ghost use mathlib.Core.Path.{_≡_};
-ghost use Rattle.lists.specs.Rules.{shapeOf, listed, rulesIn, cellOf};
+ghost use Rattle.lists.specs.Rules.{shapeOf, listed, rulesIn, offsetOf};
 ghost use Rattle.lists.specs.Faults.{inList, shapeFault};
 
 // The most fields that a rule has.
@@ -31,8 +31,8 @@ pub fn shape_of(d: usize) -> Shape
 }
 
 // Says where in a list the low of field f of rule i stands, for rules of d fields; its high stands one further.
-pub fn cell(d: u16, i: u16, f: u16) -> usize
-    ensures { λ r. ⌜ r ≡ cellOf d i f ⌝ }
+pub fn offset_of(d: u16, i: u16, f: u16) -> usize
+    ensures { λ r. ⌜ r ≡ offsetOf d i f ⌝ }
 {
     (i as usize * d as usize + f as usize) * 2
 }
@@ -59,7 +59,7 @@ pub fn in_list(shape: Shape, list: &[u32], rule: u16) -> bool
     if MOST_FIELDS < d {
         return false;
     }
-    cell(d as u16, rule, d as u16) <= list.len()
+    offset_of(d as u16, rule, d as u16) <= list.len()
 }
 
 // Gives the first of the refusals 1, 2 and 3 that applies to a list's shape, or the one that refuses nothing.

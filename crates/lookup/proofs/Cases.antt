@@ -1,29 +1,31 @@
 -- 01, A small bench list: the marked cases B1 to B12, as one table of rows and one statement about the definitions.
 -- A row has its mark, what a definition gives, and what 01 writes; both as numbers. Of a lookup these are what the answer says in the
 -- paper's words (`saysLooked`): the refusal's number and place, then 1, the rule and the tests, or 0 and the tests.
--- B10 to B12 are about prefixes (`ranges`).
+-- B9's "any header" is no row: it is said of every header, beside the table. B10 to B12 are about prefixes (`ranges`).
 -- Assumes nothing.
 use Prim.Native.Nat.{ℕ}
 use mathlib.Core.Bool.{Bool, true}
 use mathlib.Core.List.{List, [], _∷_}
+use mathlib.Core.Path.{_≡_, refl}
 use lib.Dec.{T}
 use Rattle.ranges.specs.Numbers.{_and_, sameList, all, count, least, greatest, tab}
 use Rattle.ranges.specs.Refusals.{Said}
 use Rattle.ranges.specs.Sides.{endOf, sideOf}
 use Rattle.ranges.specs.Prefixes.{prefixFault, boundsOf, saysBounds}
 use Rattle.ranges.specs.Blocks.{blockFits, blockOf, prefixesFrom, prefixesOf, flat}
-use Rattle.lists.specs.Rules.{rulesIn, cellOf, lowOf, highOf, endsAt}
+use Rattle.lists.specs.Rules.{rulesIn, offsetOf, lowOf, highOf, endsAt}
 use Rattle.lists.specs.FirstMatch.{fits}
 use Rattle.lists.specs.Faults.{shapeFault}
 use Rattle.ranges.specs.Standings.{standingOf}
 use Rattle.ordering.specs.Order.{compare}
 use Rattle.sorting.specs.FirstFit.{fitOf, firstFit, parts}
-use Rattle.tables.specs.Layout.{tableLength, orderAt, startAt, fromAt, toAt}
+use Rattle.tables.specs.Layout.{rowOf, tableLength, orderAt, startAt, fromAt, toAt}
 use Rattle.sorting.specs.Table.{placeOf, ruleAt, startOf, runFrom, runTo, tableOf, builtTable}
 use Rattle.tables.specs.Opening.{opening, openFault}
 use Rattle.sorting.proofs.Cases.{bench, benchTable, empty, emptyTable}
 use Rattle.lookup.specs.Walk.{runStands, stepAt, arrivedOf, walkFrom}
 use Rattle.lookup.specs.Lookup.{visitOf, lookupFrom, lookupOf, saysLooked}
+use Rattle.lookup.specs.declared.lookup.Looked.the-variants.{Nothing}
 
 -- ---- a row of the table
 pub record Case : Type 0 where
@@ -65,13 +67,13 @@ cases =
     ∷ row 7 (asked 10 0) (nothing 4)
     ∷ row 8 (asked 7 1000) (nothing 6)
     ∷ row 9 (builtTable empty) emptyTable
-    ∷ row 9 (numbers (saysLooked (lookupOf empty emptyTable (4294967295 ∷ 0 ∷ 0 ∷ 0 ∷ 0 ∷ 0 ∷ 0 ∷ 0 ∷ [])))) (nothing 0)
     ∷ row 10 (flat (prefixesOf 5 16 23)) (16 ∷ 2 ∷ [])
     ∷ row 11 (flat (prefixesOf 5 1 30)) (1 ∷ 5 ∷ 2 ∷ 4 ∷ 4 ∷ 3 ∷ 8 ∷ 2 ∷ 16 ∷ 2 ∷ 24 ∷ 3 ∷ 28 ∷ 4 ∷ 30 ∷ 5 ∷ [])
     ∷ row 12 (flat (prefixesOf 32 0 4294967295)) (0 ∷ 0 ∷ [])
     ∷ row 12 (numbers (saysBounds (boundsOf 32 0 0))) (0 ∷ 0 ∷ 0 ∷ 0 ∷ 4294967295 ∷ [])
     ∷ []
 
-pub cases-hold : T (hold cases)
-unfolding cases all count least greatest tab endOf sideOf rulesIn cellOf lowOf highOf endsAt fits shapeFault standingOf compare fitOf firstFit parts tableLength orderAt startAt fromAt toAt placeOf ruleAt startOf runFrom runTo tableOf opening openFault runStands stepAt arrivedOf walkFrom visitOf lookupFrom lookupOf prefixesOf prefixesFrom blockOf blockFits prefixFault
-cases-hold = tt
+-- the one statement: every row of the table holds, and in the table of no rules any header at all finds none, with 0 tests (B9)
+pub cases-hold : T (hold cases) × ((h : List ℕ) → lookupOf empty emptyTable h ≡ Nothing 0)
+unfolding cases all count least greatest tab endOf sideOf rulesIn offsetOf lowOf highOf endsAt fits shapeFault standingOf compare fitOf firstFit parts tableLength orderAt startAt fromAt toAt rowOf placeOf ruleAt startOf runFrom runTo tableOf opening openFault runStands stepAt arrivedOf walkFrom visitOf lookupFrom lookupOf prefixesOf prefixesFrom blockOf blockFits prefixFault
+cases-hold = (tt, λ h. refl)

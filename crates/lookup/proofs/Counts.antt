@@ -14,6 +14,7 @@ use borrow.Author.Tests.{ltb-true, ltb-false}
 use Rattle.ranges.specs.declared.side.Side.{Side}
 use Rattle.ranges.specs.declared.side.Side.the-variants.{Below, Above, Inside}
 use Rattle.ranges.proofs.Numbers.{never}
+use Rattle.lists.specs.Limits.{mostRules}
 use Rattle.lists.specs.Rules.{Rules, fieldsOf}
 use Rattle.tables.specs.Layout.{View}
 use Rattle.lookup.specs.Walk.{midOf, leaves, arrivedOf, walkFrom}
@@ -99,5 +100,5 @@ module _ (R : Rules) (v : View) (h : List ℕ) where
       → u < t + (fieldsOf R - f) + j
   walk-few k s e f t j lt in-row size x u is = few k s e f t .some lt in-row j size x u is
 
-  pub walk-few-18 : (k s e : ℕ) → s < e → e ≤ 1024 → fieldsOf R ≤ 8 → (x : Found) (u : ℕ) → walkFrom R v h k s e 0 0 ≡ Ran x u → u ≤ 18
+  pub walk-few-18 : (k s e : ℕ) → s < e → e ≤ mostRules → fieldsOf R ≤ 8 → (x : Found) (u : ℕ) → walkFrom R v h k s e 0 0 ≡ Ran x u → u ≤ 18
   walk-few-18 k s e lt few-rules few-fields x u is = omega (arith, walk-few k s e 0 0 11 lt (omega arith) (omega arith) x u is)

@@ -3,6 +3,7 @@
 -- Steps: what one test leaves.
 -- Arrivals: the end of a walk at field d.
 -- Walks: the turns of a walk, and what holds of every walk.
+-- Enough: how many tests a walk may make alters nothing, once they are enough.
 -- Named: a rule that a walk names fits.
 -- Packing: a walk's answer as one number, and back.
 -- Counts: how many tests a walk makes.
@@ -11,10 +12,12 @@
 -- What follows of the lookup, by its definition alone:
 -- Returned: a rule returned fits.
 -- Unread: numbers past d are unread.
+-- Brokens: when a partition is broken, in 01's own conditions.
 -- Refusing: when a lookup refuses, and with what.
 -- Groups: what holds of a group of places of a table that keeps the promise, and that a test keeps it.
 -- Finds: a walk through a partition of such a table finds the rule that fits.
 -- Firsts: the lookup in such a table is first match.
+-- Matched: an answer at the first match, by which rules fit.
 -- Totals: the count is the sum, at most d + k a partition.
 -- Reached: the bound is reached.
 -- Theorems: the headline statements under the three demands.
@@ -25,6 +28,7 @@ pub mod Within
 pub mod Steps
 pub mod Arrivals
 pub mod Walks
+pub mod Enough
 pub mod Named
 pub mod Packing
 pub mod Counts
@@ -32,10 +36,12 @@ pub mod Visits
 pub mod Lookups
 pub mod Returned
 pub mod Unread
+pub mod Brokens
 pub mod Refusing
 pub mod Groups
 pub mod Finds
 pub mod Firsts
+pub mod Matched
 pub mod Totals
 pub mod Reached
 pub mod Theorems

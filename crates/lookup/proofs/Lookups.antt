@@ -3,17 +3,17 @@
 --     by-refused, by-search                the same, as the code works it out
 --     by-ready, by-parts                   what the search may rely on
 -- Assumes nothing.
-use Prim.Native.Nat.{ℕ, _≤_, _<_}
+use Prim.Native.Nat.{ℕ, _≤_}
 use mathlib.Core.List.{List}
 use mathlib.Core.Path.{_≡_, sym, ap, _∙_}
 use native.Mathlib.Omega.{arith}
-use lib.ListN.{length, getD}
 use borrow.Author.Tests.{eq-eqb, ne-eqb}
 use Rattle.ranges.specs.declared.refusal.Refusal.{Refusal}
+use Rattle.lists.specs.Limits.{mostRules}
 use Rattle.lists.specs.Rules.{Rules, fieldsOf, rulesIn}
-use Rattle.tables.specs.Layout.{view, partsAt}
+use Rattle.tables.specs.Layout.{view}
 use Rattle.tables.specs.Opening.{viewOf, openFault}
-use Rattle.tables.proofs.Opened.{Opened, opened, head-read}
+use Rattle.tables.proofs.Opened.{Opened, opened}
 use Rattle.lookup.specs.Lent.{Ready}
 use Rattle.lookup.specs.Lookup.{lookupFrom, searchOf, lookupOf}
 use Rattle.lookup.specs.declared.lookup.Looked.{Looked}
@@ -30,16 +30,7 @@ module _ (R : Rules) (T h : List ℕ) where
 
 -- a list and a table that open are ready for a walk
 pub opened-ready : (R : Rules) (T : List ℕ) → Opened R T → (m : ℕ) → m ≡ rulesIn R → Ready R m T
-opened-ready R T o m is-m =
-    let s = o .shape-stands in
-    record {
-      rules = is-m;
-      few-rules = omega (arith, s .few-rules, is-m);
-      some-fields = s .some-fields;
-      few-fields = s .few-fields;
-      whole = rw is-m (s .whole);
-      long = rw is-m (o .sized .long);
-    }
+opened-ready R T o m is-m = record { rules = is-m; shape-stands = o .shape-stands; sized = rw is-m (o .sized) }
 
 -- ---- as the code works it out: x is the opening's refusal, and m the number of rules
 module _ (R : Rules) (T : List ℕ) (x : Refusal) (is-x : x ≡ openFault R T) where
@@ -50,19 +41,15 @@ module _ (R : Rules) (T : List ℕ) (x : Refusal) (is-x : x ≡ openFault R T) w
     pub by-opened : Opened R T
     by-opened = opened R T (rw is-x at z)
 
-    -- b stands in the table
-    pub by-parts-read : partsAt < length T
-    by-parts-read = head-read (by-opened .sized) 2 (omega arith)
-
     module _ (m : ℕ) (is-m : m ≡ rulesIn R) where
-      pub by-few : m ≤ 1024
+      pub by-few : m ≤ mostRules
       by-few = omega (arith, by-opened .shape-stands .few-rules, is-m)
 
       pub by-ready : Ready R m T
       by-ready = opened-ready R T by-opened m is-m
 
-      pub by-parts : getD T partsAt 0 ≤ m
-      by-parts = omega (arith, by-opened .few-parts, is-m)
+      pub by-parts : {b : ℕ} → b ≡ viewOf R T .b → b ≤ m
+      by-parts is-b = omega (arith, by-opened .few-parts, is-m, is-b)
 
-      pub by-search : (h : List ℕ) (w : Looked) → w ≡ lookupFrom R (view m (fieldsOf R) T) h (getD T partsAt 0) 0 m 0 → w ≡ lookupOf R T h
-      by-search h w is = (rw is-m at is) ∙ sym (lookup-searches R T h (rw is-x at z))
+      pub by-search : {b : ℕ} → b ≡ viewOf R T .b → (h : List ℕ) (w : Looked) → w ≡ lookupFrom R (view m (fieldsOf R) T) h b 0 m 0 → w ≡ lookupOf R T h
+      by-search is-b h w is = (rw (is-m, is-b) at is) ∙ sym (lookup-searches R T h (rw is-x at z))

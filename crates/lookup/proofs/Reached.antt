@@ -1,4 +1,4 @@
--- The bound d + k is reached: for every d from 1 to 8 and m from 1 to 1,024 by the list in which rule i is i-i in every field, `ladder d m`,
+-- The bound d + k is reached: for every d from 1 to 8 and m from 1 to 1,024 by the list in which rule i is 2i to 2i + 1 in every field, `ladder d m`,
 -- and the header of zeros. The build puts its m rules into one partition, since of two rules the one with the smaller number is under
 -- the other in field 0. The header is below every place but the first, whose rule is 0: so k tests halve the group down to one
 -- place, and one test a field is inside.
@@ -6,7 +6,7 @@
 --     ladder-parts                                              its one partition
 --     ladder-reaches                                            its lookup makes d + k tests
 -- Assumes nothing.
-use Prim.Native.Nat.{ℕ, zero, suc, _+_, _-_, _*_, _/_, min, _≤_, _<_}
+use Prim.Native.Nat.{ℕ, zero, suc, _+_, _-_, _*_, _/_, _%_, min, _≤_, _<_}
 use mathlib.Core.Bool.{Bool, true, false}
 use mathlib.Core.Path.{_≡_, refl, sym, ap, _∙_}
 use native.Mathlib.Omega.{arith}
@@ -23,7 +23,8 @@ use Rattle.ranges.specs.declared.side.Side.the-variants.{Below, Inside}
 use Rattle.ranges.proofs.Numbers.{all-yes, tab-length, tab-at}
 use Rattle.ranges.specs.Sides.{endOf}
 use Rattle.ranges.proofs.Sides.{side-below, side-inside}
-use Rattle.lists.specs.Rules.{rulesIn, cellOf, lowOf, highOf, endsAt}
+use Rattle.lists.specs.Limits.{mostRules}
+use Rattle.lists.specs.Rules.{rulesIn, offsetOf, lowOf, highOf, endsAt}
 use Rattle.lists.specs.FirstMatch.{sideAt, insideAt, fits}
 use Rattle.lists.specs.Faults.{shapeFault, listFault}
 use Rattle.lists.proofs.Rules.{row-inside}
@@ -40,13 +41,14 @@ use Rattle.lists.proofs.Sound.{Sound, sound-ends}
 use Rattle.ranges.proofs.Standings.{alike-is, before-is}
 use Rattle.ordering.proofs.Comparing.{compare-none, alike-fields}
 use Rattle.ordering.proofs.Ordering.{before-at, under-before}
-use Rattle.sorting.proofs.Parts.{parts-over, parts-least}
-use Rattle.sorting.proofs.FirstFits.{free-yes, fit-is, first-fit-at}
-use Rattle.sorting.proofs.Reading.{read-parts, table-sized}
-use Rattle.sorting.proofs.Built.{built-keeps-promise}
+use Rattle.sorting.proofs.Partitions.Parts.{parts-over, parts-least}
+use Rattle.sorting.proofs.Partitions.FirstFits.{free-yes, fit-is, first-fit-at}
+use Rattle.sorting.proofs.Sorted.Reading.{read-parts, table-sized}
+use Rattle.sorting.proofs.Sorted.Built.{built-keeps-promise}
 use Rattle.lookup.specs.Walk.{midOf, leaves, stepAt, walkFrom}
 use Rattle.lookup.specs.Lookup.{visitOf, answerOf, lookupFrom, searchOf, lookupOf}
-use Rattle.lookup.specs.Bounds.{PowerWithin, ladder, zeros}
+use Rattle.lookup.specs.Bounds.{PowerWithin, ladder}
+use Rattle.lists.specs.Headers.{zeros}
 use Rattle.lookup.specs.declared.walk.Found.the-variants.{Hit}
 use Rattle.lookup.specs.declared.walk.Walked.the-variants.{Ran}
 use Rattle.lookup.specs.declared.lookup.Looked.the-variants.{Rule}
@@ -62,27 +64,37 @@ use Rattle.lookup.proofs.Firsts.{promise-opens}
 row-over : (d i r : ℕ) → r < d * 2 → (i * (d * 2) + r) / (d * 2) ≡ i
 row-over d i r lt = div-eq-of-lt-le (d * 2) (omega arith) (omega arith)
 
+-- number c of the list
+abbrev rung : ℕ → ℕ → ℕ
+rung d c = c / (d * 2) * 2 + c % 2
+
 module _ (d m : ℕ) (some : 1 ≤ d) where
   pub ladder-rules : rulesIn (ladder d m) ≡ m
   unfolding rulesIn
   ladder-rules =
       let pos : 0 < d * 2 = omega arith in
-      ap (λ n. n / (d * 2)) (tab-length (λ c. c / (d * 2)) (m * d * 2) ∙ mul-assoc m d 2) ∙ mul-div-cancel m pos
+      ap (λ n. n / (d * 2)) (tab-length (rung d) (m * d * 2) ∙ mul-assoc m d 2) ∙ mul-div-cancel m pos
 
-  -- every number of rule i's row is i
-  ladder-at : (i f r c : ℕ) → i < m → f < d → r < 2 → c ≡ (i * d + f) * 2 + r → getD (ladder d m .numbers) c 0 ≡ i
+  -- the numbers of rule i's row are 2i, its lows, and 2i + 1, its highs
+  ladder-at : (i f r c : ℕ) → i < m → f < d → r < 2 → c ≡ (i * d + f) * 2 + r → getD (ladder d m .numbers) c 0 ≡ i * 2 + r
   ladder-at i f r c rule in-row end is =
       let inside : c < m * d * 2 = omega (arith, row-inside d i m f rule in-row) in
       let at : c ≡ i * (d * 2) + (f * 2 + r) = omega arith in
-      tab-at (λ c. c / (d * 2)) (m * d * 2) c inside ∙ ap (λ c. c / (d * 2)) at ∙ row-over d i (f * 2 + r) (omega arith)
+      let row : c / (d * 2) ≡ i = ap (λ x. x / (d * 2)) at ∙ row-over d i (f * 2 + r) (omega arith) in
+      let odd : c % 2 ≡ r = omega arith in
+      tab-at (rung d) (m * d * 2) c inside ∙ rw (row, odd)
 
-  pub ladder-low : (i f : ℕ) → i < m → f < d → lowOf (ladder d m) i f ≡ i
-  unfolding lowOf cellOf
-  ladder-low i f rule in-row = ladder-at i f 0 ((i * d + f) * 2) rule in-row (omega arith) (omega arith)
+  pub ladder-low : (i f : ℕ) → i < m → f < d → lowOf (ladder d m) i f ≡ i * 2
+  unfolding lowOf offsetOf
+  ladder-low i f rule in-row =
+      let low : i * 2 + 0 ≡ i * 2 = omega arith in
+      ladder-at i f 0 ((i * d + f) * 2) rule in-row (omega arith) (omega arith) ∙ low
 
-  pub ladder-ends : (i f : ℕ) → i < m → f < d → endsAt (ladder d m) i f ≡ i + 1
-  unfolding endsAt endOf highOf cellOf
-  ladder-ends i f rule in-row = ap (λ k. k + 1) (ladder-at i f 1 ((i * d + f) * 2 + 1) rule in-row (omega arith) (omega arith))
+  pub ladder-ends : (i f : ℕ) → i < m → f < d → endsAt (ladder d m) i f ≡ i * 2 + 2
+  unfolding endsAt endOf highOf offsetOf
+  ladder-ends i f rule in-row =
+      let past : i * 2 + 1 + 1 ≡ i * 2 + 2 = omega arith in
+      ap (λ k. k + 1) (ladder-at i f 1 ((i * d + f) * 2 + 1) rule in-row (omega arith) (omega arith)) ∙ past
 
   pub ladder-sound : Sound (ladder d m)
   ladder-sound =
@@ -94,11 +106,11 @@ module _ (d m : ℕ) (some : 1 ≤ d) where
             omega arith;
       }
 
-module _ (d m : ℕ) (some : 1 ≤ d) (few : d ≤ 8) (few-rules : m ≤ 1024) where
+module _ (d m : ℕ) (some : 1 ≤ d) (few : d ≤ 8) (few-rules : m ≤ mostRules) where
   ladder-shape : shapeFault (ladder d m) ≡ none
   ladder-shape =
       let n-is = ladder-rules d m some in
-      let long = tab-length (λ c. c / (d * 2)) (m * d * 2) in
+      let long = tab-length (rung d) (m * d * 2) in
       shape-stands (ladder d m) some few (ap (λ n. n * d * 2) n-is ∙ sym long) (omega arith)
 
   -- the build accepts it
@@ -160,10 +172,10 @@ module _ (d m : ℕ) (some : 1 ≤ d) (few : d ≤ 8) (rules : 1 ≤ m) (v : Vie
   rule : (p : ℕ) → p < m → v .order p < m
   rule p lt = omega (arith, promise .order-rule p (omega (arith, n-is)), n-is)
 
-  low : (p f : ℕ) → p < m → f < d → lowOf (ladder d m) (v .order p) f ≡ v .order p
+  low : (p f : ℕ) → p < m → f < d → lowOf (ladder d m) (v .order p) f ≡ v .order p * 2
   low p f lt in-row = ladder-low d m some (v .order p) f (rule p lt) in-row
 
-  past : (p f : ℕ) → p < m → f < d → endsAt (ladder d m) (v .order p) f ≡ v .order p + 1
+  past : (p f : ℕ) → p < m → f < d → endsAt (ladder d m) (v .order p) f ≡ v .order p * 2 + 2
   past p f lt in-row = ladder-ends d m some (v .order p) f (rule p lt) in-row
 
   -- rule 0 stands first
@@ -194,7 +206,7 @@ module _ (d m : ℕ) (some : 1 ≤ d) (few : d ≤ 8) (rules : 1 ≤ m) (v : Vie
   alone p r f lt lt′ like =
       let R = ladder d m in
       let same = alike-fields R (v .order r) (v .order p) (suc f) like 0 (omega arith) .0 in
-      promise .order-once r p (omega (arith, n-is)) (omega (arith, n-is)) (sym (low r 0 lt′ some) ∙ same ∙ low p 0 lt some)
+      promise .order-once r p (omega (arith, n-is)) (omega (arith, n-is)) (omega (arith, same, low r 0 lt′ some, low p 0 lt some))
 
   record Lone (p f : ℕ) : Type 0 where
     from : v .from p f ≡ p
@@ -315,7 +327,7 @@ module _ (d m : ℕ) (some : 1 ≤ d) (few : d ≤ 8) (rules : 1 ≤ m) (v : Vie
       ∙ rw (lt-ltb 0 n under)
 
 -- ---- build, then lookup
-pub ladder-reaches : (d m k : ℕ) → 1 ≤ d → d ≤ 8 → 1 ≤ m → m ≤ 1024 → PowerWithin m k
+pub ladder-reaches : (d m k : ℕ) → 1 ≤ d → d ≤ 8 → 1 ≤ m → m ≤ mostRules → PowerWithin m k
     → lookupOf (ladder d m) (builtTable (ladder d m)) zeros ≡ Rule 0 (d + k)
 ladder-reaches d m k some few rules few-rules power =
     let R = ladder d m in

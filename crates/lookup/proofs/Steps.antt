@@ -22,7 +22,7 @@ use Rattle.lists.specs.FirstMatch.{sideAt}
 use Rattle.tables.specs.Layout.{View}
 use Rattle.lookup.specs.Walk.{midOf, runStands, leaves, stepAt, stepOf}
 use Rattle.lookup.specs.declared.walk.Step.{Step}
-use Rattle.lookup.specs.declared.walk.Step.the-variants.{On, Fault}
+use Rattle.lookup.specs.declared.walk.Step.the-variants.{On, Broken as StepBroken}
 
 -- ---- a run, held against the group and its middle
 module _ (s e m a b : ℕ) where
@@ -45,7 +45,7 @@ module _ (s e m a b : ℕ) where
 -- ---- one test
 module _ (R : Rules) (v : View) (h : List ℕ) (s e f m n i : ℕ) (is-n : n ≡ rulesIn R) (is-i : i ≡ v .order m) where
   -- the rule number at the middle is n or more
-  pub step-beyond : n ≤ i → stepAt R v h s e f m ≡ Fault
+  pub step-beyond : n ≤ i → stepAt R v h s e f m ≡ StepBroken
   unfolding stepAt
   step-beyond le =
       let over : rulesIn R ≤ v .order m = omega arith in
@@ -53,7 +53,7 @@ module _ (R : Rules) (v : View) (h : List ℕ) (s e f m n i : ℕ) (is-n : n ≡
 
   module _ (a b : ℕ) (is-a : a ≡ v .from m f) (is-b : b ≡ v .to m f) (rule : i < n) where
     -- its run may not be trusted
-    pub step-astray : (t : Bool) → t ≡ runStands s e m a b → t ≡ false → stepAt R v h s e f m ≡ Fault
+    pub step-astray : (t : Bool) → t ≡ runStands s e m a b → t ≡ false → stepAt R v h s e f m ≡ StepBroken
     unfolding stepAt
     step-astray t is-t astray =
         let under : v .order m < rulesIn R = omega arith in
@@ -95,7 +95,7 @@ trusted-stands {s} {e} {m} {a} {b} t = run-to-end s e m a b (t .from-start) (t .
 
 -- the outcomes of the test at place m, with the facts that lead to each
 pub data Tested (R : Rules) (v : View) (h : List ℕ) (s e f m : ℕ) : Step → Type 0 where
-  tested-fault : Tested R v h s e f m Fault
+  tested-fault : Tested R v h s e f m StepBroken
   tested : (x : Side) → v .order m < rulesIn R → Trusted s e m (v .from m f) (v .to m f) → sideAt R h (v .order m) f ≡ x
       → Tested R v h s e f m (leaves x s e f (v .from m f) (v .to m f))
 
@@ -104,7 +104,7 @@ unfolding stepAt
 test R v h s e f m = go (ltb (v .order m) (rulesIn R)) (runStands s e m (v .from m f) (v .to m f)) refl refl
   where
     go : (p q : Bool) → ltb (v .order m) (rulesIn R) ≡ p → runStands s e m (v .from m f) (v .to m f) ≡ q
-        → Tested R v h s e f m (pick (p and q) (leaves (sideAt R h (v .order m) f) s e f (v .from m f) (v .to m f)) Fault)
+        → Tested R v h s e f m (pick (p and q) (leaves (sideAt R h (v .order m) f) s e f (v .from m f) (v .to m f)) StepBroken)
     go false q is-p is-q = tested-fault
     go true false is-p is-q = tested-fault
     go true true is-p is-q =

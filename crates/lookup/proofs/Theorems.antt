@@ -3,17 +3,22 @@
 --
 --     1. Every answer and every refusal is the written one.
 --        (the contract)                   the lookup is `lookupOf`, for all lists, tables and headers, and it ends
+--        walk-enough                      a walk does not depend on how many tests it may make, once they are enough: it never ends for want of them
 --        returned-rule-fits               a rule returned is one of the list and fits the header, whatever the table
 --        refusal-carries-nothing          a refusal carries no match and a count of 0
 --        refused-by-a-row                 it is 1, 2, 3, 5 or 6 with place 0, and never 4
 --        opening-refuses                  1, 2, 3, 5 and 6 for the opening come first, in this order
---        broken-partition-refuses         else a broken partition refuses the whole call with 6 ..
+--        broken-partition-refuses         else a partition that is broken, in the paper's own conditions, refuses the whole call with 6 ..
 --        nothing-else-refuses             .. and nothing else does
+--        refuses-6-iff                    so of a table that opens 6 is given exactly where some partition is broken, and none before it
 --        numbers-past-d-unread            headers that agree on the first d numbers get the same answer
 --     2. The match is the first match.
 --        lookup-is-first-match            of a table that keeps the promise: never a refusal, and the first match
---        none-fits, nothing-fits          none exactly when no rule fits
+--        lookup-rule-iff                  of such a table: rule i exactly when i is the first rule that fits ..
+--        lookup-none-iff                  .. and none exactly when no rule fits
 --        build-then-lookup                of the table that a build left, for every list that it accepted
+--        built-rule-iff                   of that table: rule i exactly when i is the first rule that fits ..
+--        built-none-iff                   .. and none exactly when no rule fits
 --        built-lookup, choice-then-lookup of the table of first fit, and of any choice of partitions
 --     3. The count is the written walk's, and small.
 --        count-is-the-sum                 it is the sum of the partitions' tests
@@ -26,45 +31,55 @@
 -- The marked cases B1 to B12 are in `Cases.antt`; that two answers that a contract allows are equal is in `Determined.antt`.
 -- Assumes nothing.
 use Prim.Native.Nat.{ℕ, suc, _+_, _-_, _≤_, _<_}
-use mathlib.Core.Bool.{Bool, true, false}
+use mathlib.Core.Bool.{true, false}
 use mathlib.Core.List.{List, []}
-use mathlib.Core.Path.{_≡_, refl, sym, ap, _∙_}
+use mathlib.Core.Logic.{_↔_}
+use mathlib.Core.Path.{_≡_, sym, ap, _∙_}
 use native.Mathlib.Omega.{arith}
-use lib.Dec.{ltb}
-use borrow.Author.Tests.{le-ltb, ltb-false}
-use Rattle.ranges.specs.Numbers.{pick, least}
 use Rattle.ranges.specs.Refusals.{none, refused, BrokenTable}
 use Rattle.ranges.specs.declared.refusal.Refusal.{Refusal}
 use Rattle.ranges.specs.declared.refusal.Count.the-variants.{Is as CountIs}
-use Rattle.ranges.proofs.Numbers.{never, least-none, least-under}
+use Rattle.lists.specs.Limits.{mostRules}
 use Rattle.lists.specs.Rules.{Rules, fieldsOf, rulesIn}
 use Rattle.lists.specs.FirstMatch.{fits, firstMatch}
 use Rattle.lists.specs.Faults.{listFault}
 use Rattle.lists.proofs.Rules.{Shaped}
-use Rattle.tables.specs.Layout.{TableFor}
+use Rattle.lists.proofs.Theorems.{First}
+use Rattle.tables.specs.Layout.{View, TableFor}
 use Rattle.sorting.specs.FirstFit.{Choice, firstFit}
 use Rattle.tables.specs.Opening.{viewOf, openFault}
 use Rattle.sorting.specs.Promise.{Promise}
 use Rattle.sorting.specs.Table.{tableOf, builtTable}
 use Rattle.sorting.specs.Build.{buildOf, tableAfter}
 use Rattle.lists.proofs.Sound.{list-sound, list-shaped}
-use Rattle.sorting.proofs.Reading.{table-sized}
-use Rattle.sorting.proofs.Kept.{choice-keeps-promise}
-use Rattle.sorting.proofs.Built.{built-keeps-promise, list-keeps-promise}
+use Rattle.sorting.proofs.Sorted.Reading.{table-sized}
+use Rattle.sorting.proofs.Sorted.Kept.{choice-keeps-promise}
+use Rattle.sorting.proofs.Sorted.Built.{built-keeps-promise, list-keeps-promise}
 use Rattle.sorting.proofs.Theorems.{build-is-b-iff, built-table}
+use Rattle.lookup.specs.Walk.{walkFrom}
 use Rattle.lookup.specs.Lookup.{visitOf, answerOf, lookupOf, matchIn, testsIn}
-use Rattle.lookup.specs.Bounds.{PowerWithin, testsOf, sumFrom, refuses, ladder, zeros}
-use Rattle.lookup.specs.declared.walk.Walked.the-variants.{Broken}
+use Rattle.lookup.specs.Bounds.{PowerWithin, testsOf, sumFrom, refuses, ladder}
+use Rattle.lists.specs.Headers.{zeros}
+use Rattle.lookup.specs.declared.lookup.Looked.{Looked}
 use Rattle.lookup.specs.declared.lookup.Looked.the-variants.{Rule, Nothing, Refused}
+use Rattle.lookup.proofs.Enough.{enough-one}
 use Rattle.lookup.proofs.Returned.{rule-fits}
 use Rattle.lookup.proofs.Unread.{Agree, lookup-same}
-use Rattle.lookup.proofs.Refusing.{RefusedBy, refused-by, lookup-broken, lookup-fine}
+use Rattle.lookup.proofs.Brokens.{BrokenPart}
+use Rattle.lookup.proofs.Refusing.{RefusedBy, refused-by, FirstBroken, lookup-broken, lookup-fine, lookup-6-iff}
 use Rattle.lookup.proofs.Lookups.{lookup-refused}
 use Rattle.lookup.proofs.Firsts.{lookup-first}
+use Rattle.lookup.proofs.Matched.{NoneFits, matched-rule-iff, matched-none-iff}
 use Rattle.lookup.proofs.Totals.{answer-tests, power-within, visit-tests, sum-le, lookup-sum, none-costs-none}
 use Rattle.lookup.proofs.Reached.{ladder-sound, ladder-rules, ladder-stands, ladder-parts, ladder-reaches}
 
 -- ---- 1. every answer and every refusal is the written one
+-- a walk that is broken is broken by the table, never for want of tests: `walkFrom` is what the paper writes at any step bound above group size
+-- plus remaining fields, such as a visit's
+pub walk-enough : (R : Rules) (v : View) (h : List ℕ) (j k s e f t : ℕ) → (e - s) + (fieldsOf R - f) < j → (e - s) + (fieldsOf R - f) < k
+    → walkFrom R v h j s e f t ≡ walkFrom R v h k s e f t
+walk-enough = enough-one
+
 module _ (R : Rules) (T h : List ℕ) where
   -- who acts on a rule returned may rely on it, even if the table is damaged
   pub returned-rule-fits : (i t : ℕ) → lookupOf R T h ≡ Rule i t → (i < rulesIn R) × (fits R h i ≡ true)
@@ -82,11 +97,17 @@ module _ (R : Rules) (T h : List ℕ) where
   opening-refuses = lookup-refused R T h
 
   module _ (opens : openFault R T .number ≡ 0) where
-    pub broken-partition-refuses : (q : ℕ) → q < viewOf R T .b → visitOf R (viewOf R T) h q ≡ Broken → lookupOf R T h ≡ Refused (refused BrokenTable)
+    -- what breaks partition q is one of the paper's own conditions (`Brokens.antt`): its starts, or at a group that the walk reaches the rule
+    -- number or the run read at the middle place, or at field d the group's size, its rule number or the confirming comparison
+    pub broken-partition-refuses : (q : ℕ) → q < viewOf R T .b → BrokenPart R (viewOf R T) h q → lookupOf R T h ≡ Refused (refused BrokenTable)
     broken-partition-refuses = lookup-broken R T h opens
 
-    pub nothing-else-refuses : ((q : ℕ) → q < viewOf R T .b → visitOf R (viewOf R T) h q ≡ Broken → ⊥) → refuses (lookupOf R T h) ≡ false
+    pub nothing-else-refuses : ((q : ℕ) → q < viewOf R T .b → BrokenPart R (viewOf R T) h q → ⊥) → refuses (lookupOf R T h) ≡ false
     nothing-else-refuses = lookup-fine R T h opens
+
+    -- so of a table that opens 6 is given exactly where some partition is broken; the first that is, is the one met
+    pub refuses-6-iff : (lookupOf R T h ≡ Refused (refused BrokenTable)) ↔ FirstBroken R (viewOf R T) h
+    refuses-6-iff = lookup-6-iff R T h opens
 
 -- a caller may leave anything in the numbers past d
 pub numbers-past-d-unread : (R : Rules) (T h h′ : List ℕ) → Agree (fieldsOf R) h h′ → lookupOf R T h ≡ lookupOf R T h′
@@ -102,23 +123,13 @@ lookup-is-first-match R T shape sized promise h =
     let tests : t ≡ testsIn (lookupOf R T h) = sym (ap testsIn (found .1) ∙ answer-tests R (firstMatch R h) t) in
     found .1 ∙ ap (answerOf R (firstMatch R h)) tests
 
--- an answer at the first match is none exactly when no rule fits
-module _ (R : Rules) (h : List ℕ) (t : ℕ) where
-  pub none-fits : ((i : ℕ) → i < rulesIn R → fits R h i ≡ false) → answerOf R (firstMatch R h) t ≡ Nothing t
-  unfolding firstMatch
-  none-fits unfit =
-      let at-n = least-none (fits R h) (rulesIn R) unfit in
-      let over : rulesIn R ≤ least (rulesIn R) (fits R h) = omega arith in
-      rw (le-ltb (least (rulesIn R) (fits R h)) (rulesIn R) over)
+-- so such a table answers rule i exactly when i is the first rule that fits, and none exactly when no rule fits
+module _ (R : Rules) (T : List ℕ) (shape : Shaped R) (sized : TableFor (rulesIn R) (fieldsOf R) T) (promise : Promise R (viewOf R T)) (h : List ℕ) where
+  pub lookup-rule-iff : (i : ℕ) → ((t : ℕ) × (lookupOf R T h ≡ Rule i t)) ↔ First R h i
+  lookup-rule-iff = matched-rule-iff R h (lookupOf R T h) (testsIn (lookupOf R T h)) (lookup-is-first-match R T shape sized promise h)
 
-  pub nothing-fits : answerOf R (firstMatch R h) t ≡ Nothing t → (i : ℕ) → i < rulesIn R → fits R h i ≡ false
-  unfolding firstMatch
-  nothing-fits = go (ltb (least (rulesIn R) (fits R h)) (rulesIn R)) refl
-    where
-      go : (p : Bool) → ltb (least (rulesIn R) (fits R h)) (rulesIn R) ≡ p → pick p (Rule (least (rulesIn R) (fits R h)) t) (Nothing t) ≡ Nothing t
-          → (i : ℕ) → i < rulesIn R → fits R h i ≡ false
-      go true e is i lt = never (cc)
-      go false e is i lt = least-under (fits R h) (rulesIn R) i (omega (arith, ltb-false (least (rulesIn R) (fits R h)) (rulesIn R) e))
+  pub lookup-none-iff : ((t : ℕ) × (lookupOf R T h ≡ Nothing t)) ↔ NoneFits R h
+  lookup-none-iff = matched-none-iff R h (lookupOf R T h) (testsIn (lookupOf R T h)) (lookup-is-first-match R T shape sized promise h)
 
 -- a list that the build does not refuse
 module _ (R : Rules) (fine : listFault R .number ≡ 0) where
@@ -137,6 +148,18 @@ pub build-then-lookup : (R : Rules) (T : List ℕ) (b : ℕ) → buildOf R T ≡
 build-then-lookup R T b answered h =
     let able = build-is-b-iff R T b .0 answered .0 in
     rw (built-table R T able) (built-lookup R (able .no-fault) h)
+
+-- of that table: a caller who gets a rule has the first that fits, and one who gets none knows that no rule fits; by `build-then-lookup` there is no
+-- third answer
+module _ (R : Rules) (T : List ℕ) (b : ℕ) (answered : buildOf R T ≡ CountIs b) (h : List ℕ) where
+  abbrev found : Looked
+  found = lookupOf R (tableAfter R T) h
+
+  pub built-rule-iff : (i : ℕ) → ((t : ℕ) × (lookupOf R (tableAfter R T) h ≡ Rule i t)) ↔ First R h i
+  built-rule-iff = matched-rule-iff R h found (testsIn found) (build-then-lookup R T b answered h)
+
+  pub built-none-iff : ((t : ℕ) × (lookupOf R (tableAfter R T) h ≡ Nothing t)) ↔ NoneFits R h
+  built-none-iff = matched-none-iff R h found (testsIn found) (build-then-lookup R T b answered h)
 
 -- ---- 3. the count is the written walk's, and small
 module _ (R : Rules) (T h : List ℕ) where
@@ -177,7 +200,7 @@ pub record Reached (d m k : ℕ) : Type 0 where
   pub of-all : viewOf (ladder d m) (builtTable (ladder d m)) .start 1 ≡ m
   pub tests : lookupOf (ladder d m) (builtTable (ladder d m)) zeros ≡ Rule 0 (d + k)
 
-pub bound-is-reached : (d m k : ℕ) → 1 ≤ d → d ≤ 8 → 1 ≤ m → m ≤ 1024 → PowerWithin m k → Reached d m k
+pub bound-is-reached : (d m k : ℕ) → 1 ≤ d → d ≤ 8 → 1 ≤ m → m ≤ mostRules → PowerWithin m k → Reached d m k
 bound-is-reached d m k some few rules few-rules power =
     let R = ladder d m in
     let v = viewOf R (builtTable R) in

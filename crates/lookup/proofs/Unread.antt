@@ -22,7 +22,7 @@ use Rattle.lookup.specs.declared.walk.Found.the-variants.{Miss}
 use Rattle.lookup.specs.declared.walk.Walked.{Walked}
 use Rattle.lookup.specs.declared.walk.Walked.the-variants.{Ran, Broken}
 use Rattle.lookup.specs.declared.walk.Step.{Step}
-use Rattle.lookup.specs.declared.walk.Step.the-variants.{On, Fault}
+use Rattle.lookup.specs.declared.walk.Step.the-variants.{On, Broken as StepBroken}
 
 -- two headers agree on the first d numbers
 pub record Agree (d : ℕ) (h h′ : List ℕ) : Type 0 where
@@ -47,7 +47,7 @@ module _ (R : Rules) (v : View) (h h′ : List ℕ) (agree : Agree (fieldsOf R) 
           → pick (leb e s) (Ran Miss t) (pick p (arrivedOf R v h s e t) (afterStep x (λ s′ e′ f′. walkFrom R v h k s′ e′ f′ (t + 1))))
           ≡ pick (leb e s) (Ran Miss t) (pick p (arrivedOf R v h′ s e t) (afterStep (stepOf R v h′ s e f) (λ s′ e′ f′. walkFrom R v h′ k s′ e′ f′ (t + 1))))
       go true is-p x is-x rest = rw (arrived-same s e t)
-      go false is-p Fault is-x rest = rw (sym (step-same s e f (leb-false (fieldsOf R) f is-p)) ∙ is-x)
+      go false is-p StepBroken is-x rest = rw (sym (step-same s e f (leb-false (fieldsOf R) f is-p)) ∙ is-x)
       go false is-p (On s′ e′ f′) is-x rest = rw (sym (step-same s e f (leb-false (fieldsOf R) f is-p)) ∙ is-x, rest s′ e′ f′ (t + 1))
 
   visit-same : (q : ℕ) → visitOf R v h q ≡ visitOf R v h′ q

@@ -1,5 +1,6 @@
 -- Laws of a partition visited and of all of them in order (`specs/Lookup.antt`).
 --     visit-none, visit-past, visit-walks      no place; an end past n; the walk
+--     by-broken, by-going, by-walk             the same, as the code works it out
 --     visit-few, told-few                      a partition's tests are at most 18
 --     from-none, from-broken, from-on          no partition left; a broken one; one visited
 --     Visited, visited-..                      what `visit_all` keeps at its loop's head, its turn and its ways out
@@ -15,8 +16,12 @@ use borrow.Author.Tests.{lt-ltb, le-ltb, le-leb, lt-leb, ltb-true, leb-true}
 use Rattle.ranges.specs.Numbers.{pick, _and_}
 use Rattle.ranges.specs.Refusals.{refused, BrokenTable}
 use Rattle.ranges.proofs.Numbers.{never}
+use Rattle.lists.specs.Limits.{mostFields, mostRules}
 use Rattle.lists.specs.Rules.{Rules, fieldsOf, rulesIn}
 use Rattle.tables.specs.Layout.{View}
+use Rattle.tables.specs.Opening.{partStands}
+use Rattle.tables.proofs.Readers.{part-spans}
+use Rattle.lookup.specs.Lent.{Going}
 use Rattle.lookup.specs.Walk.{walkFrom}
 use Rattle.lookup.specs.Packed.{packed, unpacked}
 use Rattle.lookup.specs.Lookup.{visitOf, better, answerOf, lookupFrom}
@@ -62,38 +67,45 @@ module _ (R : Rules) (v : View) (h : List ℕ) (q : ℕ) where
       go true true is-p is-r is =
           record { some = ltb-true (v .start q) (v .start (suc q)) is-p; within = leb-true (v .start (suc q)) (rulesIn R) is-r; walks = is }
 
-  pub visit-few : rulesIn R ≤ 1024 → fieldsOf R ≤ 8 → (x : Found) (u : ℕ) → visitOf R v h q ≡ Ran x u → u ≤ 18
+  pub visit-few : rulesIn R ≤ mostRules → fieldsOf R ≤ 8 → (x : Found) (u : ℕ) → visitOf R v h q ≡ Ran x u → u ≤ 18
   visit-few few-rules few-fields x u is =
       let w = visited-walks x u is in
-      let few : v .start (suc q) ≤ 1024 = omega arith in
+      let few : v .start (suc q) ≤ mostRules = omega arith in
       walk-few-18 R v h (suc (rulesIn R + fieldsOf R)) (v .start q) (v .start (suc q)) (w .some) few few-fields x u (w .walks)
 
   -- where a callee told what the visit is
-  pub told-few : rulesIn R ≤ 1024 → fieldsOf R ≤ 8 → (w : Walked) (x : Found) (u : ℕ) → w ≡ visitOf R v h q → w ≡ Ran x u → u ≤ 18
+  pub told-few : rulesIn R ≤ mostRules → fieldsOf R ≤ 8 → (w : Walked) (x : Found) (u : ℕ) → w ≡ visitOf R v h q → w ≡ Ran x u → u ≤ 18
   told-few few-rules few-fields w x u is-w is = visit-few few-rules few-fields x u (sym is-w ∙ is)
 
--- as the code works it out: s and e are the starts of q and of the next
-module _ (R : Rules) (v : View) (h : List ℕ) (n q s e : ℕ) (is-n : n ≡ rulesIn R) (is-s : s ≡ v .start q) (is-e : e ≡ v .start (q + 1)) where
-  next : e ≡ v .start (suc q)
-  next = is-e ∙ ap (v .start) (add-one q)
+-- as the code works it out: t is whether the partition stands, s and e its start and the next
+module _ (R : Rules) (v : View) (h : List ℕ) (n q : ℕ) (is-n : n ≡ rulesIn R) {t : Bool} (is-t : t ≡ partStands n (v .start) q) where
+  pub by-broken : t ≡ false → visitOf R v h q ≡ Broken
+  unfolding visitOf
+  by-broken e = let not-so : partStands (rulesIn R) (v .start) q ≡ false = rw is-n at (sym is-t ∙ e) in rw not-so
 
-  pub by-none : e ≤ s → visitOf R v h q ≡ Broken
-  by-none le = visit-none R v h q (omega (arith, next))
+  module _ (e : t ≡ true) where
+    stands-so : partStands (rulesIn R) (v .start) q ≡ true
+    stands-so = rw is-n at (sym is-t ∙ e)
 
-  module _ (some : s < e) where
-    some-places : v .start q < v .start (suc q)
-    some-places = omega (arith, next)
-
-    pub by-past : n < e → visitOf R v h q ≡ Broken
-    by-past past = visit-past R v h q some-places (omega (arith, next))
+    -- the group that the walk begins with
+    pub by-going : {d s e : ℕ} → n ≤ mostRules → d ≤ mostFields → s ≡ v .start q → e ≡ v .start (suc q) → Going n d s e 0 0
+    by-going {d} {s} {e} few-rules few-fields is-s is-e =
+        let spans = part-spans (rulesIn R) (v .start) q stands-so in
+        record {
+          in-table = omega (arith, spans .1, is-e, is-n);
+          in-row = omega arith;
+          few-tests = omega (arith, spans .1, is-e, is-n);
+        }
 
     -- c is what the walk answered, as one number, and w what it stands for
-    pub by-walk : e ≤ n → n ≤ 1024 → fieldsOf R ≤ 8 → (c : ℕ) → ((k : ℕ) → (e - s) + (fieldsOf R - 0) < k → c ≡ packed (walkFrom R v h k s e 0 0))
+    pub by-walk : {s e : ℕ} → s ≡ v .start q → e ≡ v .start (suc q) → rulesIn R ≤ mostRules → fieldsOf R ≤ mostFields
+        → (c : ℕ) → ((k : ℕ) → (e - s) + (fieldsOf R - 0) < k → c ≡ packed (walkFrom R v h k s e 0 0))
         → (w : Walked) → w ≡ unpacked c → w ≡ visitOf R v h q
-    by-walk le few-rules few-fields c walked w is-w =
-        let within : v .start (suc q) ≤ rulesIn R = omega (arith, next) in
+    by-walk {s} {e} is-s is-e few-rules few-fields c walked w is-w =
+        let spans = part-spans (rulesIn R) (v .start) q stands-so in
         let k = suc (rulesIn R + fieldsOf R) in
-        let few : e ≤ 1024 = omega arith in
+        let some : s < e = omega (arith, spans .0, is-s, is-e) in
+        let few : e ≤ mostRules = omega (arith, spans .1, is-e) in
         let small : Small (walkFrom R v h k s e 0 0) =
         record {
           few-tests = λ x u is. let le-18 : u ≤ 18 = walk-few-18 R v h k s e some few few-fields x u is in omega arith;
@@ -101,9 +113,9 @@ module _ (R : Rules) (v : View) (h : List ℕ) (n q s e : ℕ) (is-n : n ≡ rul
         }
         in
         is-w
-        ∙ ap unpacked (walked k (omega arith))
+        ∙ ap unpacked (walked k (omega (arith, spans .1, is-e)))
         ∙ packed-back (walkFrom R v h k s e 0 0) small
-        ∙ rw (is-s, next) (sym (visit-walks R v h q some-places within))
+        ∙ rw (is-s, is-e) (sym (visit-walks R v h q (spans .0) (spans .1)))
 
 -- ---- all partitions in order
 module _ (R : Rules) (v : View) (h : List ℕ) where
@@ -142,7 +154,7 @@ module _ {R : Rules} {v : View} {h : List ℕ} {n b q best t : ℕ} (seen : Visi
   pub visited-all : b ≤ q → lookupFrom R v h b 0 n 0 ≡ answerOf R best t
   visited-all le = seen .rest 0 (omega (arith, seen .in-order)) ∙ from-none R v h q best t
 
-  pub visited-more : rulesIn R ≤ 1024 → fieldsOf R ≤ 8 → q < b → (x : Found) (u : ℕ) → visitOf R v h q ≡ Ran x u
+  pub visited-more : rulesIn R ≤ mostRules → fieldsOf R ≤ 8 → q < b → (x : Found) (u : ℕ) → visitOf R v h q ≡ Ran x u
       → Visited R v h n b (q + 1) (better best x) (t + u)
   visited-more few-rules few-fields lt x u is =
       record {
@@ -152,7 +164,7 @@ module _ {R : Rules} {v : View} {h : List ℕ} {n b q best t : ℕ} (seen : Visi
       }
 
   -- the same, by what was found
-  module _ (few-rules : rulesIn R ≤ 1024) (few-fields : fieldsOf R ≤ 8) (lt : q < b) (w : Walked) (x : Found) (u : ℕ) (is-w : w ≡ visitOf R v h q) (is : w ≡ Ran x u) where
+  module _ (few-rules : rulesIn R ≤ mostRules) (few-fields : fieldsOf R ≤ 8) (lt : q < b) (w : Walked) (x : Found) (u : ℕ) (is-w : w ≡ visitOf R v h q) (is : w ≡ Ran x u) where
     pub visited-found : (y : Found) → x ≡ y → Visited R v h n b (q + 1) (better best y) (t + u)
     visited-found y is-x = visited-more few-rules few-fields lt y u (sym is-w ∙ is ∙ ap (λ z. Ran z u) is-x)
 

@@ -1,26 +1,26 @@
 -- Laws of the walk (`specs/Walk.antt`): its four turns, each from the tests that lead to it. k is one less than the tests that it
 -- may still make.
 --     walk-empty, walk-arrives, walk-breaks, walk-on      an empty group, field d, a broken step, a step
+--     Turn, turn                                          which of them it is
 --     every-empty, every-arrives, every-breaks, every-on  the same for every k that is enough
 --     walk-holds                                          what each turn keeps holds of every walk
 -- Assumes nothing.
 use Prim.Native.Nat.{ℕ, zero, suc, _+_, _≤_, _<_}
 use mathlib.Core.Bool.{Bool, true, false}
 use mathlib.Core.List.{List}
-use mathlib.Core.Path.{_≡_, refl, sym, ap, _∙_}
+use mathlib.Core.Path.{_≡_, refl, sym, ap, _∙_, subst}
 use native.Mathlib.Omega.{arith}
 use lib.Dec.{leb}
 use borrow.Author.Tests.{le-leb, lt-leb, leb-true, leb-false}
-use Rattle.ranges.specs.Numbers.{pick}
 use Rattle.lists.specs.Rules.{Rules, fieldsOf}
 use Rattle.tables.specs.Layout.{View}
-use Rattle.lookup.specs.Walk.{stepOf, afterStep, arrivedOf, walkFrom}
+use Rattle.lookup.specs.Walk.{stepOf, arrivedOf, walkFrom}
 use Rattle.lookup.specs.Packed.{packed}
 use Rattle.lookup.specs.declared.walk.Found.the-variants.{Miss}
 use Rattle.lookup.specs.declared.walk.Walked.{Walked}
 use Rattle.lookup.specs.declared.walk.Walked.the-variants.{Ran, Broken}
 use Rattle.lookup.specs.declared.walk.Step.{Step}
-use Rattle.lookup.specs.declared.walk.Step.the-variants.{On, Fault}
+use Rattle.lookup.specs.declared.walk.Step.the-variants.{On, Broken as StepBroken}
 
 module _ (R : Rules) (v : View) (h : List ℕ) (k s e f t : ℕ) where
   pub walk-empty : e ≤ s → walkFrom R v h (suc k) s e f t ≡ Ran Miss t
@@ -32,13 +32,29 @@ module _ (R : Rules) (v : View) (h : List ℕ) (k s e f t : ℕ) where
   walk-arrives some at-end = rw (lt-leb e s some, le-leb (fieldsOf R) f at-end)
 
   module _ (some : s < e) (in-row : f < fieldsOf R) where
-    pub walk-breaks : stepOf R v h s e f ≡ Fault → walkFrom R v h (suc k) s e f t ≡ Broken
+    pub walk-breaks : stepOf R v h s e f ≡ StepBroken → walkFrom R v h (suc k) s e f t ≡ Broken
     unfolding walkFrom
     walk-breaks is = rw (lt-leb e s some, lt-leb (fieldsOf R) f in-row, is)
 
     pub walk-on : (s′ e′ f′ : ℕ) → stepOf R v h s e f ≡ On s′ e′ f′ → walkFrom R v h (suc k) s e f t ≡ walkFrom R v h k s′ e′ f′ (t + 1)
     unfolding walkFrom
     walk-on s′ e′ f′ is = rw (lt-leb e s some, lt-leb (fieldsOf R) f in-row, is)
+
+-- which turn it is, on places s to before e at field f, with the facts that lead to it
+pub data Turn (R : Rules) (v : View) (h : List ℕ) (s e f : ℕ) : Type 0 where
+  empties : e ≤ s → Turn R v h s e f
+  ends : s < e → fieldsOf R ≤ f → Turn R v h s e f
+  breaks : s < e → f < fieldsOf R → stepOf R v h s e f ≡ StepBroken → Turn R v h s e f
+  goes-on : s < e → f < fieldsOf R → (s′ e′ f′ : ℕ) → stepOf R v h s e f ≡ On s′ e′ f′ → Turn R v h s e f
+
+pub turn : (R : Rules) (v : View) (h : List ℕ) (s e f : ℕ) → Turn R v h s e f
+turn R v h s e f = go (leb e s) refl (leb (fieldsOf R) f) refl (stepOf R v h s e f) refl
+  where
+    go : (p : Bool) → leb e s ≡ p → (q : Bool) → leb (fieldsOf R) f ≡ q → (x : Step) → stepOf R v h s e f ≡ x → Turn R v h s e f
+    go true is-p q is-q x is-x = empties (leb-true e s is-p)
+    go false is-p true is-q x is-x = ends (leb-false e s is-p) (leb-true (fieldsOf R) f is-q)
+    go false is-p false is-q StepBroken is-x = breaks (leb-false e s is-p) (leb-false (fieldsOf R) f is-q) is-x
+    go false is-p false is-q (On s′ e′ f′) is-x = goes-on (leb-false e s is-p) (leb-false (fieldsOf R) f is-q) s′ e′ f′ is-x
 
 -- the same for every number of tests that is enough, as the code's contract has it: more than m, group size plus remaining fields
 module _ (R : Rules) (v : View) (h : List ℕ) (s e f t m c : ℕ) where
@@ -57,7 +73,7 @@ module _ (R : Rules) (v : View) (h : List ℕ) (s e f t m c : ℕ) where
 
   module _ (some : s < e) (in-row : f < fieldsOf R) where
     -- x is what a callee told of the step
-    pub every-breaks : (x : Step) → x ≡ stepOf R v h s e f → x ≡ Fault → c ≡ packed Broken → Answers
+    pub every-breaks : (x : Step) → x ≡ stepOf R v h s e f → x ≡ StepBroken → c ≡ packed Broken → Answers
     every-breaks x is-x step is zero lt = absurd (omega arith)
     every-breaks x is-x step is (suc k) lt = is ∙ ap packed (sym (walk-breaks R v h k s e f t some in-row (sym is-x ∙ step)))
 
@@ -78,13 +94,12 @@ module _ (R : Rules) (v : View) (h : List ℕ) (P : ℕ → ℕ → ℕ → ℕ 
     pub walk-holds : (k s e f t : ℕ) → P s e f t (walkFrom R v h k s e f t)
     unfolding walkFrom
     walk-holds zero s e f t = broken s e f t
-    walk-holds (suc k) s e f t = go (leb e s) refl (leb (fieldsOf R) f) refl (stepOf R v h s e f) refl (walk-holds k)
+    walk-holds (suc k) s e f t = go (turn R v h s e f) (walk-holds k)
       where
-        go : (p : Bool) → leb e s ≡ p → (q : Bool) → leb (fieldsOf R) f ≡ q → (x : Step) → stepOf R v h s e f ≡ x
-            → ((s′ e′ f′ t′ : ℕ) → P s′ e′ f′ t′ (walkFrom R v h k s′ e′ f′ t′))
-            → P s e f t (pick p (Ran Miss t) (pick q (arrivedOf R v h s e t) (afterStep x (λ s′ e′ f′. walkFrom R v h k s′ e′ f′ (t + 1)))))
-        go true is-p q is-q x is-x rest = empty s e f t (leb-true e s is-p)
-        go false is-p true is-q x is-x rest = arrives s e f t (leb-false e s is-p) (leb-true (fieldsOf R) f is-q)
-        go false is-p false is-q Fault is-x rest = broken s e f t
-        go false is-p false is-q (On s′ e′ f′) is-x rest =
-            goes s e f t (leb-false e s is-p) (leb-false (fieldsOf R) f is-q) s′ e′ f′ is-x (walkFrom R v h k s′ e′ f′ (t + 1)) (rest s′ e′ f′ (t + 1))
+        go : Turn R v h s e f → ((s′ e′ f′ t′ : ℕ) → P s′ e′ f′ t′ (walkFrom R v h k s′ e′ f′ t′)) → P s e f t (walkFrom R v h (suc k) s e f t)
+        go (empties none) rest = subst (P s e f t) (sym (walk-empty R v h k s e f t none)) (empty s e f t none)
+        go (ends some at-end) rest = subst (P s e f t) (sym (walk-arrives R v h k s e f t some at-end)) (arrives s e f t some at-end)
+        go (breaks some in-row is) rest = subst (P s e f t) (sym (walk-breaks R v h k s e f t some in-row is)) (broken s e f t)
+        go (goes-on some in-row s′ e′ f′ is) rest =
+            subst (P s e f t) (sym (walk-on R v h k s e f t some in-row s′ e′ f′ is))
+            (goes s e f t some in-row s′ e′ f′ is (walkFrom R v h k s′ e′ f′ (t + 1)) (rest s′ e′ f′ (t + 1)))

@@ -1,40 +1,35 @@
 -- What the walk reads of a list and a table that the opening let through (`specs/Lent.antt`) lies within them.
---     order-read, from-read, to-read   of a place's row
---     start-read                       of a partition
---     cell-read                        of a rule's range in a field
+--     few-rules, few-fields                at most 1,024 rules of at most eight fields
+--     order-read, from-read, to-read       a place's row
+--     field-read                           a rule's range in a field
 -- Assumes nothing.
 use Prim.Native.Nat.{ℕ, _≤_, _<_}
 use mathlib.Core.List.{List}
 use native.Mathlib.Omega.{arith}
 use lib.ListN.{length}
-use Rattle.lists.specs.Rules.{Rules, HasCell, fieldsOf, rulesIn, cellOf}
-use Rattle.lists.proofs.Rules.{row-inside}
-use Rattle.tables.specs.Layout.{orderAt, startAt, fromAt, toAt}
-use Rattle.tables.proofs.Offsets.{order-inside, start-inside, from-inside, to-inside}
+use Rattle.lists.specs.Limits.{mostFields, mostRules}
+use Rattle.lists.specs.Rules.{Rules, fieldsOf, rulesIn}
+use Rattle.lists.specs.Asked.{HasField}
+use Rattle.lists.proofs.Rules.{has-rule, has-field}
+use Rattle.tables.specs.Layout.{orderAt, fromAt, toAt}
+use Rattle.tables.proofs.Offsets.{order-inside, from-inside, to-inside}
 use Rattle.lookup.specs.Lent.{Ready}
 
--- at most 1,024 rules
-pub few-rules : (R : Rules) (n : ℕ) (T : List ℕ) → Ready R n T → rulesIn R ≤ 1024
-few-rules R n T lent = omega arith
-
 module _ {R : Rules} {n : ℕ} {T : List ℕ} (lent : Ready R n T) where
-  pub order-read : (p : ℕ) → p < n → orderAt p < length T
-  order-read p lt = omega (arith, order-inside n (fieldsOf R) p lt, lent .long)
+  pub few-rules : rulesIn R ≤ mostRules
+  few-rules = lent .shape-stands .few-rules
 
-  pub start-read : (q : ℕ) → q ≤ n → startAt n q < length T
-  start-read q le = omega (arith, start-inside n (fieldsOf R) q le, lent .long)
+  pub few-fields : fieldsOf R ≤ mostFields
+  few-fields = lent .shape-stands .few-fields
+
+  pub order-read : (p : ℕ) → p < n → orderAt p < length T
+  order-read p lt = omega (arith, order-inside n (fieldsOf R) p lt, lent .sized .long)
 
   pub from-read : (p f : ℕ) → p < n → f < fieldsOf R → fromAt n (fieldsOf R) p f < length T
-  from-read p f lt in-row = omega (arith, from-inside n (fieldsOf R) p f lt in-row, lent .long)
+  from-read p f lt in-row = omega (arith, from-inside n (fieldsOf R) p f lt in-row, lent .sized .long)
 
   pub to-read : (p f : ℕ) → p < n → f < fieldsOf R → toAt n (fieldsOf R) p f < length T
-  to-read p f lt in-row = omega (arith, to-inside n (fieldsOf R) p f lt in-row, lent .long)
+  to-read p f lt in-row = omega (arith, to-inside n (fieldsOf R) p f lt in-row, lent .sized .long)
 
-  pub cell-read : (i f : ℕ) → i < n → f < fieldsOf R → HasCell R i f
-  unfolding cellOf
-  cell-read i f lt in-row =
-      record {
-        few-fields = lent .few-fields;
-        field = in-row;
-        within = omega (arith, row-inside (fieldsOf R) i n f lt in-row, lent .whole);
-      }
+  pub field-read : (i f : ℕ) → i < n → f < fieldsOf R → HasField R i f
+  field-read i f lt in-row = has-field (has-rule (lent .shape-stands) (omega (arith, lent .rules))) in-row

@@ -1,12 +1,11 @@
 -- What the bound on tests speaks of: the largest power of two within a number, the tests of a visit, a sum, and the list and the
 -- header that reach the bound.
 -- Assumes nothing: these are definitions.
-use Prim.Native.Nat.{ℕ, zero, suc, _+_, _*_, _/_, _^_, _≤_, _<_}
+use Prim.Native.Nat.{ℕ, zero, suc, _+_, _*_, _/_, _%_, _^_, _≤_, _<_}
 use mathlib.Core.Bool.{Bool, true, false}
 use mathlib.Core.List.{List}
-use lib.ListN.{replicate}
 use Rattle.ranges.specs.Numbers.{tab}
-use Rattle.lists.specs.Rules.{Rules, listed}
+use Rattle.lists.specs.Rules.{Rules, shapeOf, listed}
 use Rattle.lookup.specs.declared.walk.Walked.{Walked}
 use Rattle.lookup.specs.declared.walk.Walked.the-variants.{Ran, Broken}
 use Rattle.lookup.specs.declared.lookup.Looked.{Looked}
@@ -34,11 +33,7 @@ refuses (Rule i t) = false
 refuses (Nothing t) = false
 refuses (Refused x) = true
 
--- m rules of d fields: rule i is i-i in every field
--- (of d = 2, m = 2: 0 0 0 0 1 1 1 1)
+-- m rules of d fields: rule i is 2i to 2i + 1 in every field, so every low stands at an even place and every high at an odd one
+-- (of d = 2, m = 2: 0 1 0 1 2 3 2 3)
 abbrev pub ladder : ℕ → ℕ → Rules
-ladder d m = listed record { d = d } (tab (m * d * 2) (λ c. c / (d * 2)))
-
--- the header of eight zeros, which fits rule 0 alone
-abbrev pub zeros : List ℕ
-zeros = replicate 8 0
+ladder d m = listed (shapeOf d) (tab (m * d * 2) (λ c. c / (d * 2) * 2 + c % 2))

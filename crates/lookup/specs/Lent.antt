@@ -1,21 +1,18 @@
+-- Scaffolding: only contracts of private functions cite this; nothing here has to be believed.
 -- What the walk is lent: a list and a table that the opening let through, and a group of places of that table. The
 -- functions below `lookup` require these; `lookup` itself requires nothing.
 -- Assumes nothing: these are definitions.
-use Prim.Native.Nat.{ℕ, _+_, _-_, _*_, _≤_, _<_}
+use Prim.Native.Nat.{ℕ, _+_, _-_, _≤_, _<_}
 use mathlib.Core.List.{List}
 use mathlib.Core.Path.{_≡_}
-use lib.ListN.{length}
-use Rattle.lists.specs.Rules.{Rules, fieldsOf, rulesIn}
-use Rattle.tables.specs.Layout.{tableLength}
+use Rattle.lists.specs.Rules.{Rules, fieldsOf, rulesIn, Shaped}
+use Rattle.tables.specs.Layout.{TableFor}
 
--- a list of n rules and a table, both of the right length
+-- a list of n rules whose shape stands, and a table of the right length
 pub record Ready (R : Rules) (n : ℕ) (T : List ℕ) : Type 0 where
   pub rules : n ≡ rulesIn R
-  pub few-rules : n ≤ 1024
-  pub some-fields : 1 ≤ fieldsOf R
-  pub few-fields : fieldsOf R ≤ 8
-  pub whole : length (R .numbers) ≡ n * fieldsOf R * 2
-  pub long : length T ≡ tableLength n (fieldsOf R)
+  pub shape-stands : Shaped R
+  pub sized : TableFor n (fieldsOf R) T
 
 -- a group that is not empty, of places s to before e of n, at a field f of d
 pub record Group (n d s e f : ℕ) : Type 0 where

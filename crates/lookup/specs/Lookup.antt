@@ -20,7 +20,7 @@ use Rattle.lookup.specs.declared.lookup.Looked.the-variants.{Rule, Nothi
 -- places, from field 0
 unfoldable pub visitOf : Rules → View → List ℕ → ℕ → Walked
 visitOf R v h q =
-    pick (partStands (rulesIn R) v q)
+    pick (partStands (rulesIn R) (v .start) q)
     (walkFrom R v h (suc (rulesIn R + fieldsOf R)) (v .start q) (v .start (suc q)) 0 0)
     Broken
 

@@ -1,3 +1,4 @@
+-- Scaffolding: only contracts of private functions cite this; nothing here has to be believed.
 -- A walk's answer as one number, and back: what the walk that calls itself hands out (`src/lib.rt`, What it costs).
 -- No part of 01: the contracts of `walk` and of what unpacks its answer cite it, and the contract of a visit does not.
 -- Assumes nothing: these are definitions.

@@ -16,7 +16,7 @@ use Rattle.lookup.specs.declared.walk.Found.the-variants.{Hit, Miss}
 use Rattle.lookup.specs.declared.walk.Walked.{Walked}
 use Rattle.lookup.specs.declared.walk.Walked.the-variants.{Ran, Broken}
 use Rattle.lookup.specs.declared.walk.Step.{Step}
-use Rattle.lookup.specs.declared.walk.Step.the-variants.{On, Fault}
+use Rattle.lookup.specs.declared.walk.Step.the-variants.{On, Broken as StepBroken}
 
 -- the middle place of a group: its start and half its size, rounded down
 -- (of places 0 to before 3 it is 1, of 0 to before 2 it is 1, of 0 to before 1 it is 0)
@@ -39,7 +39,7 @@ unfoldable pub stepAt : Rules → View → List ℕ → ℕ → ℕ → ℕ → 
 stepAt R v h s e f m =
     pick (ltb (v .order m) (rulesIn R) and runStands s e m (v .from m f) (v .to m f))
     (leaves (sideAt R h (v .order m) f) s e f (v .from m f) (v .to m f))
-    Fault
+    StepBroken
 
 -- one test, at the middle place
 abbrev pub stepOf : Rules → View → List ℕ → ℕ → ℕ → ℕ → Step
@@ -56,7 +56,7 @@ arrivedOf R v h s e t =
 -- what follows a test: the same walk on what it leaves
 abbrev pub afterStep : Step → (ℕ → ℕ → ℕ → Walked) → Walked
 afterStep (On s e f) next = next s e f
-afterStep Fault next = Broken
+afterStep StepBroken next = Broken
 
 -- the walk on places s to before e at field f, with t tests made: an empty group is a miss. It makes at most k tests, and
 -- a k above group size plus remaining fields is enough, since that number falls at each test

@@ -8,14 +8,15 @@ use lists::shape::rules_in;
 use ranges::refusal::BROKEN_TABLE;
 use ranges::refusal::Refusal;
 use ranges::refusal::refuse;
-use tables::layout::PARTS_AT;
-use tables::layout::start_at;
 use tables::opening::open_fault;
+use tables::read::end_of;
+use tables::read::part_count;
+use tables::read::part_stands;
+use tables::read::start_of;
 ghost use mathlib.Core.Path.{_≡_};
-ghost use Prim.Native.Nat.{_<_, _≤_};
-ghost use lib.ListN.{length, getD};
+ghost use Prim.Native.Nat.{_≤_};
 ghost use Rattle.lists.specs.Rules.{listed};
-ghost use Rattle.tables.specs.Layout.{startAt, view};
+ghost use Rattle.tables.specs.Layout.{view};
 ghost use Rattle.lookup.specs.Lent.{Ready};
 ghost use Rattle.lookup.specs.Lookup.{visitOf, lookupFrom, lookupOf};
 
@@ -26,29 +27,17 @@ pub enum Looked {
     Refused(Refusal),
 }
 
-// Reads the first place of partition q of a table of n rules.
-fn start_of(table: &[u16], n: u16, q: u16) -> u16
-    requires { ⌜ startAt n q < length (now table) ⌝ }
-    ensures { λ r. ⌜ r ≡ getD (now (table .entry)) (startAt n q) 0 ⌝ }
-{
-    table[start_at(n, q)]
-}
-
 // Visits partition q: walks through its places, or says that the table is broken where it has none or ends past the n
 // places.
 fn visit(shape: Shape, n: u16, list: &[u32], table: &[u16], header: &[u32; 8], q: u16) -> Walked
     requires { ⌜ Ready (listed shape (now list)) n (now table) ⌝ }
-    requires { ⌜ q < n ⌝ }
     ensures { λ r. ⌜ r ≡ visitOf (listed shape (now (list .entry))) (view n (shape .d) (now (table .entry))) (now (header .entry)) q ⌝ }
 {
+    if !part_stands(table, n, n, q) {
+        return Walked::Broken;
+    }
     let s = start_of(table, n, q);
-    let e = start_of(table, n, q + 1);
-    if e <= s {
-        return Walked::Broken;
-    }
-    if n < e {
-        return Walked::Broken;
-    }
+    let e = end_of(table, n, q);
     unpack(walk(shape, n, &list, &table, header, s, e, 0, 0))
 }
 
@@ -95,7 +84,6 @@ pub fn lookup(shape: Shape, list: &[u32], table: &[u16], header: [u32; 8]) -> Lo
         return Looked::Refused(fault);
     }
     let n = rules_in(shape, list) as u16;
-    // 01, The working table: n, d, b.
-    let b = table[PARTS_AT];
+    let b = part_count(table);
     visit_all(shape, n, b, list, table, &header)
 }

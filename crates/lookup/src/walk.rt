@@ -1,7 +1,7 @@
 // The walk through one partition.
 use lists::scan::rule_fits;
 use lists::shape::Shape;
-use lists::shape::cell;
+use lists::shape::offset_of;
 use ranges::side::Range;
 use ranges::side::Side;
 use ranges::side::closed;
@@ -12,9 +12,10 @@ use tables::layout::to_at;
 ghost use mathlib.Core.Path.{_≡_};
 ghost use Prim.Native.Nat.{ℕ, _+_, _-_, _<_, _≤_};
 ghost use lib.ListN.{length, getD};
-ghost use Rattle.lists.specs.Rules.{listed, HasCell, rangeAt};
+ghost use Rattle.lists.specs.Rules.{listed, rangeAt};
+ghost use Rattle.lists.specs.Asked.{HasField};
 ghost use Rattle.lists.specs.FirstMatch.{sideAt};
-ghost use Rattle.tables.specs.Layout.{orderAt, fromAt, toAt, view};
+ghost use Rattle.tables.specs.Layout.{orderAt, orderIn, fromAt, toAt, view};
 ghost use Rattle.lookup.specs.Lent.{Ready, Group, Going};
 ghost use Rattle.lookup.specs.Walk.{runStands, stepOf, arrivedOf, walkFrom};
 ghost use Rattle.lookup.specs.Packed.{packed, unpacked};
@@ -35,19 +36,20 @@ pub enum Walked {
 // What one test leaves: places s to before e at field f; or a broken table.
 pub enum Step {
     On { s: u16, e: u16, f: u16 },
-    Fault,
+    Broken,
 }
 
-// Reads the rule number at place p.
-fn rule_at(table: &[u16], p: u16) -> u16
+// Reads the rule number at place p. A walk reads so often that a test of each place, as the readers of `tables` make it, would
+// cost a lookup a fifth: so it has readers of its own, for places that are known to stand in the table.
+fn rule_in(table: &[u16], p: u16) -> u16
     requires { ⌜ orderAt p < length (now table) ⌝ }
-    ensures { λ r. ⌜ r ≡ getD (now (table .entry)) (orderAt p) 0 ⌝ }
+    ensures { λ r. ⌜ r ≡ orderIn (now (table .entry)) p ⌝ }
 {
     table[order_at(p)]
 }
 
 // Reads the run-from of place p and field f of a table of n rules of d fields.
-fn run_from(table: &[u16], n: u16, d: u16, p: u16, f: u16) -> u16
+fn from_in(table: &[u16], n: u16, d: u16, p: u16, f: u16) -> u16
     requires { ⌜ fromAt n d p f < length (now table) ⌝ }
     ensures { λ r. ⌜ r ≡ getD (now (table .entry)) (fromAt n d p f) 0 ⌝ }
 {
@@ -55,7 +57,7 @@ fn run_from(table: &[u16], n: u16, d: u16, p: u16, f: u16) -> u16
 }
 
 // Reads the run-to of place p and field f of a table of n rules of d fields.
-fn run_to(table: &[u16], n: u16, d: u16, p: u16, f: u16) -> u16
+fn to_in(table: &[u16], n: u16, d: u16, p: u16, f: u16) -> u16
     requires { ⌜ toAt n d p f < length (now table) ⌝ }
     ensures { λ r. ⌜ r ≡ getD (now (table .entry)) (toAt n d p f) 0 ⌝ }
 {
@@ -64,16 +66,16 @@ fn run_to(table: &[u16], n: u16, d: u16, p: u16, f: u16) -> u16
 
 // Gives the range of rule i in field f.
 fn range_at(shape: Shape, list: &[u32], i: u16, f: u16) -> Range
-    requires { ⌜ HasCell (listed shape (now list)) i f ⌝ }
+    requires { ⌜ HasField (listed shape (now list)) i f ⌝ }
     ensures { λ r. ⌜ r ≡ rangeAt (listed shape (now (list .entry))) i f ⌝ }
 {
-    let at = cell(shape.d as u16, i, f);
+    let at = offset_of(shape.d as u16, i, f);
     closed(list[at], list[at + 1])
 }
 
 // Says on which side of rule i's range in field f the header's number lies.
 fn side_at(shape: Shape, list: &[u32], header: &[u32; 8], i: u16, f: u16) -> Side
-    requires { ⌜ HasCell (listed shape (now list)) i f ⌝ }
+    requires { ⌜ HasField (listed shape (now list)) i f ⌝ }
     ensures { λ r. ⌜ r ≡ sideAt (listed shape (now (list .entry))) (now (header .entry)) i f ⌝ }
 {
     side_of(range_at(shape, list, i, f), header[f as usize])
@@ -96,7 +98,7 @@ fn run_stands(s: u16, e: u16, mid: u16, from: u16, to: u16) -> bool
 }
 
 // Makes one test: the header's number in field f against the rule at the middle of places s to before e; gives the
-// group and the field that are left, or a fault where the rule number is n or more or the run may not be trusted.
+// group and the field that are left, or that the table is broken where the rule number is n or more or the run may not be trusted.
 fn one_step(
     shape: Shape,
     n: u16,
@@ -113,14 +115,14 @@ fn one_step(
 {
     let d = shape.d as u16;
     let mid = s + (e - s) / 2;
-    let rule = rule_at(table, mid);
+    let rule = rule_in(table, mid);
     if n <= rule {
-        return Step::Fault;
+        return Step::Broken;
     }
-    let from = run_from(table, n, d, mid, f);
-    let to = run_to(table, n, d, mid, f);
+    let from = from_in(table, n, d, mid, f);
+    let to = to_in(table, n, d, mid, f);
     if !run_stands(s, e, mid, from, to) {
-        return Step::Fault;
+        return Step::Broken;
     }
     let side = side_at(shape, list, header, rule, f);
     match side {
@@ -153,7 +155,7 @@ fn arrive(
     if e != s + 1 {
         return Walked::Broken;
     }
-    let rule = rule_at(table, s);
+    let rule = rule_in(table, s);
     if !rule_fits(shape, list, rule, *header) {
         return Walked::Broken;
     }

@@ -1,7 +1,8 @@
 -- Laws of what a test says of the numbers below n (`specs/Numbers.antt`). A loop that tests 0, 1, .. keeps "all
 -- below j passed", "t of those below j passed" or "none below j passed", and these laws take its step and its
 -- ways out.
---     and-left, and-right, and-both    two tests joined
+--     and-left, and-right, and-both    both of two tests
+--     or-iff, or-neither               one of them, or neither
 --     picked, not-picked               which way a test went, from the answer that it led to
 --     all-yes, all-at, all-no, all-some     every number below n passes; each then does; one fails; and where not all pass, one fails
 --     count-more, count-le             one number more; never more than n (`Counting.antt` has more)
@@ -16,7 +17,7 @@ use Prim.Native.Nat.{ℕ, zero, suc, _+_, _≤_, _<_}
 use mathlib.Core.Bool.{Bool, true, false}
 use mathlib.Core.List.{List, [], _∷_}
 use mathlib.Core.Path.{_≡_, refl, sym, ap, _∙_, subst}
-use mathlib.Core.Logic.{⊎-elim}
+use mathlib.Core.Logic.{_⊎_, inl, inr, ⊎-elim, _↔_}
 use native.Mathlib.Omega.{arith}
 use native.Mathlib.Nat.{eq-or-lt-of-le, le-of-suc-le-suc}
 use native.Mathlib.Numerals.{add-one}
@@ -24,11 +25,15 @@ use borrow.Author.Tests.{lt-ltb, le-ltb, ltb-true, ltb-false, eq-eqb, eqb-true}
 use lib.Dec.{ltb, eqb}
 use lib.ListN.{length, getD, length-append, List·getD-append}
 use lib.Seq.{getD-at}
-use Rattle.ranges.specs.Numbers.{pick, _and_, bit, all, count, least, greatest, tab, sameList}
+use Rattle.ranges.specs.Numbers.{pick, _and_, _or_, bit, all, count, least, greatest, tab, sameList}
 
 -- 0 is not 1: what `cc` proves where two constructors would be equal
 pub never {ℓ} : {A : Type ℓ} → _≡_ {A = ℕ} 0 1 → A
 never e = absurd (omega arith)
+
+-- a test that is true and false at once
+pub true-not-false : {t : Bool} → t ≡ true → t ≡ false → ⊥
+true-not-false {t} p q = never (cc)
 
 -- ---- tests joined
 pub and-left : (s t : Bool) → s and t ≡ true → s ≡ true
@@ -42,9 +47,14 @@ and-right false t e = never (cc)
 pub and-both : (s t : Bool) → s ≡ true → t ≡ true → s and t ≡ true
 and-both s t p q = rw (p, q)
 
--- a test that is true and false at once
-pub true-not-false : {t : Bool} → t ≡ true → t ≡ false → ⊥
-true-not-false {t} p q = never (cc)
+-- where s tests A and t tests B, one of them passes exactly when A or B holds
+pub or-iff : {A B : Type 0} (s t : Bool) → ((s ≡ true) ↔ A) → ((t ≡ true) ↔ B) → (s or t ≡ true) ↔ (A ⊎ B)
+or-iff true t p q = (λ e. inl (p .0 refl), λ either. refl)
+or-iff false t p q = (λ e. inr (q .0 e), ⊎-elim (λ a. absurd (true-not-false (p .1 a) refl)) (q .1))
+
+pub or-neither : (s t : Bool) → s or t ≡ false → (s ≡ false) × (t ≡ false)
+or-neither true t e = never (cc)
+or-neither false t e = (refl, e)
 
 -- ---- which way a test went, from the answer that it led to
 module _ {A : Type 0} (a b v : A) where

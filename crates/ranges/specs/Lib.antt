@@ -1,3 +1,4 @@
+-- To be believed: what the contracts of public functions and the theorems say.
 pub mod Numbers
 pub mod Refusals
 pub mod Sides

@@ -10,12 +10,12 @@ use Rattle.ranges.specs.declared.refusal.Refusal.{Refusal}
 use Rattle.ranges.specs.declared.refusal.Count.{Count}
 use Rattle.ranges.specs.declared.refusal.Count.the-variants.{Is, Refused}
 
--- the rows of the table, in its order
-pub data Row : Type 0 where
-  BadFields BadLength TooManyRules LowAboveHigh BadTableLength BrokenTable NoSuchPartition BadLine BadWidth BadPrefix BadRange TooLittleRoom : Row
+-- the rows of the table, each by its cause, in its order
+pub data Cause : Type 0 where
+  BadFields BadLength TooManyRules LowAboveHigh BadTableLength BrokenTable NoSuchPartition BadLine BadWidth BadPrefix BadRange TooLittleRoom : Cause
 
--- the number of each row
-abbrev pub numberOf : Row → ℕ
+-- the number of each
+abbrev pub numberOf : Cause → ℕ
 numberOf BadFields = 1
 numberOf BadLength = 2
 numberOf TooManyRules = 3
@@ -37,13 +37,13 @@ refusing n a t = record { number = n; at = a; then = t }
 abbrev pub none : Refusal
 none = refusing 0 0 0
 
--- a row's refusal, with place 0
-abbrev pub refused : Row → Refusal
-refused row = refusing (numberOf row) 0 0
+-- the refusal for a cause, with place 0
+abbrev pub refused : Cause → Refusal
+refused cause = refusing (numberOf cause) 0 0
 
--- a row's refusal at a place of two numbers
-abbrev pub refusedAt : Row → ℕ → ℕ → Refusal
-refusedAt row a t = refusing (numberOf row) a t
+-- the same at a place of two numbers
+abbrev pub refusedAt : Cause → ℕ → ℕ → Refusal
+refusedAt cause a t = refusing (numberOf cause) a t
 
 -- nothing is refused
 abbrev pub stands : Refusal → Bool

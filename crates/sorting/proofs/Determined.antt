@@ -11,8 +11,6 @@ use Rattle.sorting.proofs.build.build.Kinds as build-kinds
 use Rattle.sorting.proofs.build.build.Reads as build
 use Rattle.sorting.proofs.audit.audit.Kinds as audit-kinds
 use Rattle.sorting.proofs.audit.audit.Reads as audit
-use Rattle.sorting.proofs.report.report.Kinds as report-kinds
-use Rattle.sorting.proofs.report.report.Reads as report
 
 pub build-fault-one : OneAnswer 2 build-fault-kinds.ps build-fault-kinds.r build-fault.Learnt
 build-fault-one κs a x y e g p q = p ∙ sym q
@@ -26,6 +24,3 @@ build-table-one κs a x y e g p q = p .leaves ∙ sym (q .leaves)
 
 pub audit-one : OneAnswer 2 audit-kinds.ps audit-kinds.r audit.Learnt
 audit-one κs a x y e g p q = p ∙ sym q
-
-pub report-one : OneAnswer 2 report-kinds.ps report-kinds.r report.Learnt
-report-one κs a x y e g p q = p ∙ sym q

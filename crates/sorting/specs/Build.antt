@@ -2,12 +2,9 @@
 -- Both refuse by 1, 2, 3, 4, 5 in this order. A refusal leaves the table as lent.
 -- Assumes nothing: these are definitions.
 use Prim.Native.Nat.{ℕ}
-use mathlib.Core.Bool.{Bool}
 use mathlib.Core.List.{List, [], _∷_}
 use mathlib.Core.Path.{_≡_}
-use lib.ListN.{length, getD}
-use lib.Dec.{eqb}
-use Rattle.ranges.specs.Numbers.{pick, all}
+use Rattle.ranges.specs.Numbers.{pick, sameList}
 use Rattle.ranges.specs.Refusals.{none, orElse, stands, countUnless, Said, saidOf}
 use Rattle.ranges.specs.declared.refusal.Refusal.{Refusal}
 use Rattle.ranges.specs.declared.refusal.Count.{Count}
@@ -43,13 +40,9 @@ pub record Built (R : Rules) (T after : List ℕ) (answer : Count) : Type 0 wher
   pub leaves : after ≡ tableAfter R T
 
 -- ---- audit
--- every number of T is that of S
-abbrev pub sameNumbers : List ℕ → List ℕ → Bool
-sameNumbers T S = all (length T) (λ k. eqb (getD T k 0) (getD S k 0))
-
 -- yes where every number of the table is what the build would write, unless something is refused
 abbrev pub auditOf : Rules → List ℕ → Verdict
-auditOf R T = pick (stands (buildFault R T)) (pick (sameNumbers T (builtTable R)) Yes No) (Refused (buildFault R T))
+auditOf R T = pick (stands (buildFault R T)) (pick (sameList T (builtTable R)) Yes No) (Refused (buildFault R T))
 
 -- what the answer says in the paper's words: 1 for yes, 0 for no
 abbrev pub saysVerdict : Verdict → Said

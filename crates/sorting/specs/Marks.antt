@@ -1,3 +1,4 @@
+-- Scaffolding: only contracts of private functions cite this; nothing here has to be believed.
 -- How `choose` finds the lowest free partition of a rule: by stamps, one a partition, that hold one more than the number of
 -- the last rule for which the partition was found taken. No stamp is ever cleared. The contract of `choose` does not speak of
 -- them; those of the functions below it do.
@@ -9,6 +10,7 @@ use mathlib.Core.Path.{_≡_}
 use lib.ListN.{length, getD}
 use lib.Dec.{eqb}
 use Rattle.ranges.specs.Numbers.{pick, least, tab}
+use Rattle.lists.specs.Limits.{mostRules}
 use Rattle.lists.specs.Rules.{Rules, rulesIn, Shaped}
 use Rattle.ordering.specs.Order.{clash}
 use Rattle.sorting.specs.FirstFit.{partOf, free}
@@ -23,7 +25,7 @@ markOf R i j old = pick (eqb old (stampOf i)) old (pick (clash R j i) (stampOf i
 
 -- the stamps once rule i is held against all rules before it: taken partitions have its stamp, the others keep theirs
 unfoldable pub stamped : Rules → List ℕ → ℕ → List ℕ → List ℕ
-stamped R run i stamps = tab 1024 (λ q. pick (free R run i q) (getD stamps q 0) (stampOf i))
+stamped R run i stamps = tab mostRules (λ q. pick (free R run i q) (getD stamps q 0) (stampOf i))
 
 -- the lowest of the partitions 0 to i without rule i's stamp, and i + 1 where there is none
 unfoldable pub unstamped : ℕ → List ℕ → ℕ
@@ -35,5 +37,5 @@ pub record Marking (R : Rules) (run : List ℕ) (i : ℕ) (stamps : List ℕ) : 
   pub rule : i < rulesIn R
   pub taken : length run ≡ i
   pub numbers : (j : ℕ) → j < i → partOf run j ≤ j
-  pub long : length stamps ≡ 1024
+  pub long : length stamps ≡ mostRules
   pub fresh : (q : ℕ) → getD stamps q 0 ≤ i

@@ -1,12 +1,14 @@
 // The audit: whether a table is what the build would write.
 use crate::build::build_fault;
-use crate::written::write_built;
+use crate::build::write_built;
 use lists::shape::Shape;
 use ranges::refusal::Refusal;
+use tables::layout::MOST_TABLE;
 ghost use mathlib.Core.Path.{_≡_};
 ghost use lib.ListN.{length};
 ghost use Rattle.lists.specs.Rules.{listed};
-ghost use Rattle.sorting.specs.Build.{sameNumbers, auditOf};
+ghost use Rattle.ranges.specs.Numbers.{sameList};
+ghost use Rattle.sorting.specs.Build.{auditOf};
 
 // What an audit answers.
 pub enum Verdict {
@@ -20,7 +22,7 @@ pub enum Verdict {
 // Says whether two runs of as many numbers have the same ones.
 fn same_numbers(a: &[u16], b: &[u16]) -> bool
     requires { ⌜ length (now a) ≡ length (now b) ⌝ }
-    ensures { λ r. ⌜ r ≡ sameNumbers (now (a .entry)) (now (b .entry)) ⌝ }
+    ensures { λ r. ⌜ r ≡ sameList (now (a .entry)) (now (b .entry)) ⌝ }
 {
     let mut k = 0;
     while k < a.len() {
@@ -42,7 +44,7 @@ pub fn audit(shape: Shape, list: &[u32], table: &[u16]) -> Verdict
         return Verdict::Refused(fault);
     }
     let long = table.len();
-    let mut built = [0u16; 18436];
+    let mut built = [0u16; MOST_TABLE];
     write_built(shape, list, &mut built[..long]);
     if same_numbers(table, &built[..long]) {
         return Verdict::Yes;

@@ -1,6 +1,8 @@
 // The build of a table, with its refusals.
-use crate::written::write_built;
+use crate::choose::choose;
+use crate::lay_out::lay_out;
 use lists::check::list_fault;
+use lists::shape::MOST_RULES;
 use lists::shape::Shape;
 use lists::shape::rules_in;
 use ranges::refusal::BAD_TABLE_LENGTH;
@@ -10,7 +12,9 @@ use ranges::refusal::refuse;
 use tables::layout::table_length;
 ghost use mathlib.Core.Path.{_≡_};
 ghost use Rattle.lists.specs.Rules.{listed};
-ghost use Rattle.sorting.specs.Build.{buildFault, Built};
+ghost use Rattle.sorting.specs.Table.{builtTable};
+ghost use Rattle.sorting.specs.Asked.{Buildable};
+ghost use Rattle.sorting.specs.Build.{buildFault, builtParts, Built};
 
 // Gives the first of the refusals 1, 2, 3, 4 and 5 that applies to a list and a table, or the one that refuses nothing.
 pub fn build_fault(shape: Shape, list: &[u32], table: &[u16]) -> Refusal
@@ -26,6 +30,17 @@ pub fn build_fault(shape: Shape, list: &[u32], table: &[u16]) -> Refusal
         return refuse(BAD_TABLE_LENGTH);
     }
     refuse(0)
+}
+
+// Chooses partitions by first fit and lays the table out with them: writes every number of the table for a list and a table that are not refused, and returns how many partitions there are.
+pub(crate) fn write_built(shape: Shape, list: &[u32], table: &mut [u16]) -> usize
+    requires { ⌜ Buildable (listed shape (now list)) (now table) ⌝ }
+    ensures { λ r. ⌜ (r ≡ builtParts (listed shape (now (list .entry)))) × (now (table .exit) ≡ builtTable (listed shape (now (list .entry)))) ⌝ }
+{
+    let n = rules_in(shape, list);
+    let mut run = [0u16; MOST_RULES];
+    choose(shape, list, &mut run[..n]);
+    lay_out(shape, list, &run[..n], table) as usize
 }
 
 // Builds the table of a list: writes every number of it and gives b, the number of partitions; or gives the first of the

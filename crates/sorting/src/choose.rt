@@ -1,14 +1,16 @@
 // The choice of partitions: first fit, by marks.
+use crate::count_parts::parts_in;
+use lists::shape::MOST_RULES;
 use lists::shape::Shape;
 use ordering::compare::compare_rules;
 use ranges::standing::Standing;
 ghost use mathlib.Core.Path.{_≡_};
-ghost use Prim.Native.Nat.{ℕ, max, _<_};
-ghost use lib.ListN.{length};
+ghost use Prim.Native.Nat.{_<_};
+ghost use Rattle.lists.specs.Limits.{mostRules};
 ghost use Rattle.lists.specs.Rules.{listed};
 ghost use Rattle.ordering.specs.Order.{clash};
-ghost use Rattle.sorting.specs.FirstFit.{parts, partOf, Chosen};
-ghost use Rattle.sorting.specs.Asked.{TwoRules, RunFor};
+ghost use Rattle.sorting.specs.FirstFit.{Chosen};
+ghost use Rattle.sorting.specs.Asked.{TwoRules, Numbered};
 ghost use Rattle.sorting.specs.Marks.{markOf, stamped, unstamped, Marking};
 
 // Says whether rules i and j clash.
@@ -42,7 +44,7 @@ fn mark_of(shape: Shape, list: &[u32], i: u16, j: u16, old: u16) -> u16
 
 // Stamps with i + 1 each partition in which rule i clashes with a member among the rules before it, whose partition
 // numbers are run; the other stamps stay.
-fn mark(shape: Shape, list: &[u32], run: &[u16], i: u16, stamps: &mut [u16; 1024])
+fn mark(shape: Shape, list: &[u32], run: &[u16], i: u16, stamps: &mut [u16; MOST_RULES])
     requires { ⌜ Marking (listed shape (now list)) (now run) i (now stamps) ⌝ }
     ensures { λ _. ⌜ now (stamps .exit) ≡ stamped (listed shape (now (list .entry))) (now (run .entry)) i (now (stamps .entry)) ⌝ }
 {
@@ -55,8 +57,8 @@ fn mark(shape: Shape, list: &[u32], run: &[u16], i: u16, stamps: &mut [u16; 1024
 }
 
 // Gives the lowest of the partitions 0 to i that does not have rule i's stamp, and i + 1 where there is none.
-fn first_free(i: u16, stamps: &[u16; 1024]) -> u16
-    requires { ⌜ i < 1024 ⌝ }
+fn first_free(i: u16, stamps: &[u16; MOST_RULES]) -> u16
+    requires { ⌜ i < mostRules ⌝ }
     ensures { λ r. ⌜ r ≡ unstamped i (now (stamps .entry)) ⌝ }
 {
     let mut q: u16 = 0;
@@ -69,37 +71,13 @@ fn first_free(i: u16, stamps: &[u16; 1024]) -> u16
     q
 }
 
-// Gives the larger of two numbers.
-fn larger(a: u16, b: u16) -> u16
-    ensures { λ r. ⌜ r ≡ max a b ⌝ }
-{
-    if a < b {
-        return b;
-    }
-    a
-}
-
-// Counts how many partitions a run of partition numbers opens: one more than the largest, 0 where there is none.
-fn parts_in(run: &[u16]) -> u16
-    requires { ⌜ ((i : ℕ) → i < length (now run) → partOf (now run) i < 1024) ⌝ }
-    ensures { λ r. ⌜ r ≡ parts (now (run .entry)) (length (now (run .entry))) ⌝ }
-{
-    let mut b: u16 = 0;
-    let mut i = 0;
-    while i < run.len() {
-        b = larger(b, run[i] + 1);
-        i += 1;
-    }
-    b
-}
-
 // Writes the first-fit partition number of each rule into run and returns how many partitions that opens.
 pub(crate) fn choose(shape: Shape, list: &[u32], run: &mut [u16]) -> u16
-    requires { ⌜ RunFor (listed shape (now list)) (now run) ⌝ }
+    requires { ⌜ Numbered (listed shape (now list)) (now run) ⌝ }
     ensures { λ r. ⌜ Chosen (listed shape (now (list .entry))) (now (run .exit)) r ⌝ }
 {
     let n = run.len() as u16;
-    let mut stamps = [0u16; 1024];
+    let mut stamps = [0u16; MOST_RULES];
     let mut i: u16 = 0;
     while i < n {
         mark(shape, list, &run[..i as usize], i, &mut stamps);

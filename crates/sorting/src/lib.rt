@@ -1,8 +1,9 @@
 // Layer 3: rules sorted into partitions, and the working table.
 //
-// Renders 01's sections 'Order and partitions', 'The working table' and, of 'Refusal numbers' and 'Other answers',
-// what is said of a build, an audit and a report. The crates of the lookup and the programs may cite it; it cites
-// `ranges`, `lists` and, for where a table's numbers stand, `tables`. What a lookup may rely on is `specs/Promise.antt` alone.
+// Renders 01's sections 'Order and partitions' (first fit), 'The working table' and, of 'Refusal numbers' and 'Other
+// answers', what is said of a build, an audit and a report. The crates of the lookup and the programs may cite it; it
+// cites `ranges`, `lists`, for the order of rules `ordering` and for where a table's numbers stand `tables`. What a lookup
+// may rely on is `specs/Promise.antt` alone.
 //
 // First fit by marks (`choose.rt`). A rule is held against every rule before it, once; where the two clash, the other
 // rule's partition gets this rule's stamp, and a partition that has it is not looked at again. The rule goes to the
@@ -17,6 +18,5 @@
 pub mod audit;
 pub mod build;
 mod choose;
+mod count_parts;
 mod lay_out;
-pub mod report;
-mod written;

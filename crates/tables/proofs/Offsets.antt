@@ -1,66 +1,161 @@
--- Laws of the working table's layout (`specs/Layout.antt`): each part lies within a table of the right length. Proofs cite these
--- and unfold no offset.
---     opening-inside, order-inside, start-inside, from-inside, to-inside
---     froms-fit, tos-fit                      so do the rows of runs
---     start-next, starts-fit, start-within, from-row-at, to-row-at      one partition, one row further
+-- Laws of the working table's layout (`specs/Layout.antt`): each part begins where the one before it ends, and lies within a table of
+-- the right length. Proofs of every crate cite these; only this file unfolds an offset.
+--     order-next, start-next, start-suc, from-next, to-next          one place, one partition, one row and field further
+--     head-ends, order-ends, starts-end, froms-end, tos-end      each part begins where the one before it ends, and the last ends the table
+--     row-first, row-in, row-place, row-field             the first number of a row; one number of all rows, with its place and field
+--     opening-inside, order-inside, start-inside, from-inside, to-inside      every number lies within the table
+--     starts-fit, start-within, froms-fit, tos-fit        so do the parts
+--     from-row-at, to-row-at                              where a row begins
+--     row-few, start-few, from-few                        an offset of numbers of 16 bits is far below a word
+--     most-table, table-few                               the length of the longest table
 -- Assumes nothing.
-use Prim.Native.Nat.{ℕ, _+_, _*_, _≤_, _<_}
+use Prim.Native.Nat.{ℕ, suc, _+_, _*_, _/_, _%_, _^_, _≤_, _<_}
 use mathlib.Core.List.{List}
-use mathlib.Core.Path.{_≡_}
+use mathlib.Core.Path.{_≡_, refl, ap, _∙_}
 use native.Mathlib.Omega.{arith}
-use Rattle.lists.proofs.Rules.{row-inside}
+use native.Mathlib.Nat.{mul-le-mul}
+use Rattle.lists.specs.Limits.{mostFields, mostRules}
+use Rattle.lists.proofs.Rules.{row-inside, square-few}
+use lib.Arith.{digits-div, digits-mod}
 use lib.ListN.{length}
-use Rattle.tables.specs.Layout.{TableFor, tableLength, orderAt, startAt, fromAt, toAt}
+use Rattle.tables.specs.Layout.{headLength, TableFor, rowOf, tableLength, orderAt, startAt, fromAt, toAt, mostTable}
 
-module _ (n d : ℕ) where
-  -- n, d, b and the first start
-  pub opening-inside : 3 < tableLength n d
-  unfolding tableLength
-  opening-inside = omega arith
+-- ---- rows
+module _ (d p : ℕ) where
+  pub row-first : rowOf d p 0 ≡ p * d
+  unfolding rowOf
+  row-first = omega arith
 
-  pub order-inside : (p : ℕ) → p < n → orderAt p < tableLength n d
-  unfolding tableLength orderAt
-  order-inside p lt = omega arith
+  -- a place and a field among n places of d fields
+  pub row-in : (n f : ℕ) → p < n → f < d → rowOf d p f < n * d
+  unfolding rowOf
+  row-in n f lt in-row = row-inside d p n f lt in-row
 
-  pub start-inside : (q : ℕ) → q ≤ n → startAt n q < tableLength n d
-  unfolding tableLength startAt
-  start-inside q le = omega arith
+-- a number among rows of d, by its place and field
+module _ {d : ℕ} (p : ℕ) {f : ℕ} (in-row : f < d) where
+  pub row-place : rowOf d p f / d ≡ p
+  unfolding rowOf
+  row-place = digits-div p in-row
 
-  pub from-inside : (p f : ℕ) → p < n → f < d → fromAt n d p f < tableLength n d
-  unfolding tableLength fromAt
-  from-inside p f lt in-row = omega (arith, row-inside d p n f lt in-row)
+  pub row-field : rowOf d p f % d ≡ f
+  unfolding rowOf
+  row-field = digits-mod p in-row
 
-  pub to-inside : (p f : ℕ) → p < n → f < d → toAt n d p f < tableLength n d
-  unfolding tableLength toAt
-  to-inside p f lt in-row = omega (arith, row-inside d p n f lt in-row)
+-- ---- one further
+pub order-next : (p : ℕ) → orderAt p ≡ orderAt 0 + p
+unfolding orderAt
+order-next p = omega arith
 
--- ---- one place, one partition, one row further
-pub start-next : (n q : ℕ) → startAt n q ≡ startAt n 0 + q
+pub start-next : (room q : ℕ) → startAt room q ≡ startAt room 0 + q
 unfolding startAt
-start-next n q = omega arith
+start-next room q = omega arith
+
+pub start-suc : (room q : ℕ) → startAt room q + 1 ≡ startAt room (suc q)
+unfolding startAt
+start-suc room q = omega arith
+
+module _ (room d p f : ℕ) where
+  pub from-next : fromAt room d p f ≡ fromAt room d 0 0 + rowOf d p f
+  unfolding fromAt rowOf
+  from-next = omega arith
+
+  pub to-next : toAt room d p f ≡ toAt room d 0 0 + rowOf d p f
+  unfolding toAt rowOf
+  to-next = omega arith
+
+-- ---- each part begins where the one before it ends
+pub head-ends : orderAt 0 ≡ headLength
+unfolding orderAt
+head-ends = refl
+
+pub order-ends : (room : ℕ) → orderAt 0 + room ≡ startAt room 0
+unfolding startAt
+order-ends room = omega (arith, order-next room)
+
+module _ (room d : ℕ) where
+  pub starts-end : startAt room 0 + (room + 1) ≡ fromAt room d 0 0
+  unfolding fromAt rowOf
+  starts-end = omega (arith, start-next room room)
+
+  pub froms-end : fromAt room d 0 0 + room * d ≡ toAt room d 0 0
+  unfolding toAt rowOf
+  froms-end = omega (arith, from-next room d room 0, row-first d room)
+
+  pub tos-end : toAt room d 0 0 + room * d ≡ tableLength room d
+  unfolding tableLength
+  tos-end = omega (arith, to-next room d room 0, row-first d room)
+
+-- ---- within the table
+module _ (room d : ℕ) where
+  -- n, d, b and the first start
+  pub opening-inside : headLength < tableLength room d
+  opening-inside = omega (arith, head-ends, order-ends room, starts-end room d, froms-end room d, tos-end room d)
+
+  pub order-inside : (p : ℕ) → p < room → orderAt p < tableLength room d
+  order-inside p lt = omega (arith, order-next p, order-ends room, starts-end room d, froms-end room d, tos-end room d)
+
+  pub start-inside : (q : ℕ) → q ≤ room → startAt room q < tableLength room d
+  start-inside q le = omega (arith, start-next room q, starts-end room d, froms-end room d, tos-end room d)
+
+  pub from-inside : (p f : ℕ) → p < room → f < d → fromAt room d p f < tableLength room d
+  from-inside p f lt in-row = omega (arith, from-next room d p f, row-in d p room f lt in-row, froms-end room d, tos-end room d)
+
+  pub to-inside : (p f : ℕ) → p < room → f < d → toAt room d p f < tableLength room d
+  to-inside p f lt in-row = omega (arith, to-next room d p f, row-in d p room f lt in-row, tos-end room d)
 
 -- the starts fit a table in which the last one stands
-pub starts-fit : (n long : ℕ) → startAt n n < long → startAt n 0 + (n + 1) ≤ long
-starts-fit n long lt = omega (arith, start-next n n)
+pub starts-fit : (room long : ℕ) → startAt room room < long → startAt room 0 + (room + 1) ≤ long
+starts-fit room long lt = omega (arith, start-next room room)
 
-pub start-within : {n q r long : ℕ} → r ≡ startAt n q → q ≤ n → startAt n n < long → r < long
-start-within {n} {q} {r} at le lt = omega (arith, at, start-next n n, start-next n q)
+pub start-within : {room q r long : ℕ} → r ≡ startAt room q → q ≤ room → startAt room room < long → r < long
+start-within {room} {q} {r} at le lt = omega (arith, at, start-next room room, start-next room q)
 
-module _ (n d p : ℕ) where
-  pub from-row-at : fromAt n d p 0 ≡ fromAt n d 0 0 + p * d
-  unfolding fromAt
-  from-row-at = omega arith
+module _ (room d p : ℕ) where
+  pub from-row-at : fromAt room d p 0 ≡ fromAt room d 0 0 + p * d
+  from-row-at = omega (arith, from-next room d p 0, row-first d p)
 
-  pub to-row-at : toAt n d p 0 ≡ toAt n d 0 0 + p * d
-  unfolding toAt
-  to-row-at = omega arith
+  pub to-row-at : toAt room d p 0 ≡ toAt room d 0 0 + p * d
+  to-row-at = omega (arith, to-next room d p 0, row-first d p)
 
 -- ---- the rows of runs fit the table
-module _ {n d : ℕ} {T : List ℕ} (sized : TableFor n d T) where
-  pub froms-fit : fromAt n d 0 0 + n * d ≤ length T
-  unfolding tableLength fromAt
-  froms-fit = omega (arith, sized .long)
+module _ {room d : ℕ} {T : List ℕ} (sized : TableFor room d T) where
+  pub froms-fit : fromAt room d 0 0 + room * d ≤ length T
+  froms-fit = omega (arith, sized .long, froms-end room d, tos-end room d)
 
-  pub tos-fit : toAt n d 0 0 + n * d ≤ length T
-  unfolding tableLength toAt
-  tos-fit = omega (arith, sized .long)
+  pub tos-fit : toAt room d 0 0 + room * d ≤ length T
+  tos-fit = omega (arith, sized .long, tos-end room d)
+
+-- ---- offsets are small
+-- numbers of 16 bits
+module _ {d p f : ℕ} (few-d : d < 2 ^ 16) (few-p : p < 2 ^ 16) where
+  pub row-few : f < 2 ^ 16 → rowOf d p f ≤ 4294901760
+  unfolding rowOf
+  row-few few-f = omega (arith, square-few d p few-d few-p)
+
+pub start-few : {room q : ℕ} → room < 2 ^ 16 → q < 2 ^ 16 → startAt room q ≤ 131073
+unfolding startAt orderAt
+start-few few-room few-q = omega arith
+
+module _ {room d p f : ℕ} (few-room : room < 2 ^ 16) (few-d : d < 2 ^ 16) (few-p : p < 2 ^ 16) (few-f : f < 2 ^ 16) where
+  pub from-few : fromAt room d p f ≤ 4295032834
+  unfolding fromAt
+  from-few = omega (arith, start-few few-room few-room, row-few few-d few-p few-f)
+
+-- ---- the longest table
+pub most-table : mostTable ≡ 18436
+unfolding tableLength toAt fromAt startAt orderAt rowOf
+most-table = refl
+
+pub table-few : (room d : ℕ) → room ≤ mostRules → d ≤ mostFields → tableLength room d ≤ mostTable
+table-few room d few-rules few-fields =
+    let product : room * d ≤ mostRules * mostFields = mul-le-mul few-rules few-fields in
+    omega (
+      arith,
+      product,
+      most-table,
+      head-ends,
+      order-ends room,
+      starts-end room d,
+      froms-end room d,
+      tos-end room d,
+    )

@@ -1,7 +1,6 @@
 -- Laws of the opening (`specs/Opening.antt`): the outcome of each test, and back from no refusal to what each test found.
---     head-read, start-read                                   what is read of a table of the right length
 --     opening-n, opening-d, opening-b, opening-first, opening-last      the tests in their order
---     first-wrong, last-read                                  the last two, of a table
+--     reads-n, reads-d, reads-b, reads-first, reads-last                the same, as the code reads them
 --     open-length, open-broken, open-stands                   5, 6 for the opening, none of 1, 2, 3, 5 and 6
 --     Opened, opened, opened-told, opened-none                a list and a table that meet none of them
 --     open-few                                                the number of an opening's refusal is at most 6
@@ -22,19 +21,8 @@ use Rattle.ranges.proofs.Numbers.{true-not-false, and-left, and-right}
 use Rattle.lists.specs.Rules.{Rules, fieldsOf, rulesIn, Shaped}
 use Rattle.lists.specs.Faults.{shapeFault}
 use Rattle.lists.proofs.Faults.{shape-few, shape-stands, shaped}
-use Rattle.tables.specs.Layout.{View, view, TableFor, tableLength, startAt}
-use Rattle.tables.proofs.Offsets.{opening-inside, start-inside}
+use Rattle.tables.specs.Layout.{View, view, TableFor, tableLength}
 use Rattle.tables.specs.Opening.{opening, viewOf, openFault}
-
--- ---- what is read of a table of the right length
-module _ {n d : ℕ} {T : List ℕ} (sized : TableFor n d T) where
-  -- n, d, b and the first start stand in it
-  pub head-read : (k : ℕ) → k ≤ 3 → k < length T
-  head-read k le = omega (arith, opening-inside n d, sized .long)
-
-  -- so does each start, where a callee said where
-  pub start-read : {q r : ℕ} → r ≡ startAt n q → q ≤ n → r < length T
-  start-read {q} {r} e le = omega (arith, start-inside n d q le, sized .long, e)
 
 -- ---- the tests in their order
 module _ (n d : ℕ) (v : View) where
@@ -59,14 +47,28 @@ module _ (n d : ℕ) (v : View) (is-n : v .n ≡ n) (is-d : v .d ≡ d) where
   unfolding opening
   opening-last few first = rw (eq-eqb (v .n) n is-n, eq-eqb (v .d) d is-d, le-leb (v .b) n few, eq-eqb (v .start 0) 0 first)
 
--- the same of a table's view, where a callee said at which place a start was read
-module _ (n d : ℕ) (T : List ℕ) (is-n : view n d T .n ≡ n) (is-d : view n d T .d ≡ d) (few : view n d T .b ≤ n) where
-  pub first-wrong : (r : ℕ) → r ≡ startAt n 0 → (getD T r 0 ≡ 0 → ⊥) → opening n d (view n d T) ≡ false
-  first-wrong r at ne = opening-first n d (view n d T) is-n is-d few (λ e. ne (ap (λ k. getD T k 0) at ∙ e))
+-- the same of a table's view, as the code reads it: x, y, b, s and e are what readers gave
+module _ (n d : ℕ) (T : List ℕ) {x : ℕ} (is-x : x ≡ view n d T .n) where
+  pub reads-n : (x ≡ n → ⊥) → false ≡ opening n d (view n d T)
+  reads-n ne = sym (opening-n n d (view n d T) (λ e. ne (is-x ∙ e)))
 
-  pub last-read : (r s : ℕ) → r ≡ startAt n 0 → getD T r 0 ≡ 0 → s ≡ startAt n (view n d T .b) → opening n d (view n d T) ≡ eqb (getD T s 0) n
-  last-read r s at first at-last =
-      opening-last n d (view n d T) is-n is-d few (ap (λ k. getD T k 0) (sym at) ∙ first) ∙ ap (λ k. eqb (getD T k 0) n) (sym at-last)
+  module _ (n-is : x ≡ n) {y : ℕ} (is-y : y ≡ view n d T .d) where
+    pub reads-d : (y ≡ d → ⊥) → false ≡ opening n d (view n d T)
+    reads-d ne = sym (opening-d n d (view n d T) (sym is-x ∙ n-is) (λ e. ne (is-y ∙ e)))
+
+    module _ (d-is : y ≡ d) {b : ℕ} (is-b : b ≡ view n d T .b) where
+      pub reads-b : n < b → false ≡ opening n d (view n d T)
+      reads-b many = sym (opening-b n d (view n d T) (sym is-x ∙ n-is) (sym is-y ∙ d-is) (rw is-b at many))
+
+      module _ (few : b ≤ n) {s : ℕ} (is-s : s ≡ view n d T .start 0) where
+        pub reads-first : (s ≡ 0 → ⊥) → false ≡ opening n d (view n d T)
+        reads-first ne =
+            sym (opening-first n d (view n d T) (sym is-x ∙ n-is) (sym is-y ∙ d-is) (rw is-b at few) (λ e. ne (is-s ∙ e)))
+
+        pub reads-last : s ≡ 0 → {e : ℕ} → e ≡ view n d T .start b → eqb e n ≡ opening n d (view n d T)
+        reads-last first {e} is-e =
+            let same : e ≡ view n d T .start (view n d T .b) = is-e ∙ ap (view n d T .start) is-b in
+            sym (opening-last n d (view n d T) (sym is-x ∙ n-is) (sym is-y ∙ d-is) (rw is-b at few) (sym is-s ∙ first) ∙ ap (λ k. eqb k n) (sym same))
 
 -- ---- what opens
 -- a list and a table that meet none of 1, 2, 3, 5 and the opening's 6

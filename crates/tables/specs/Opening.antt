@@ -18,9 +18,9 @@ use Rattle.tables.specs.Layout.{View, view, tableLength}
 unfoldable pub opening : ℕ → ℕ → View → Bool
 opening n d v = eqb (v .n) n and eqb (v .d) d and leb (v .b) n and eqb (v .start 0) 0 and eqb (v .start (v .b)) n
 
--- partition q has a place, and ends within the n places
-abbrev pub partStands : ℕ → View → ℕ → Bool
-partStands n v q = ltb (v .start q) (v .start (suc q)) and leb (v .start (suc q)) n
+-- by the starts, partition q has a place and ends within the n places
+abbrev pub partStands : ℕ → (ℕ → ℕ) → ℕ → Bool
+partStands n start q = ltb (start q) (start (suc q)) and leb (start (suc q)) n
 
 -- the view of a table lent with this list
 abbrev pub viewOf : Rules → List ℕ → View

@@ -5,8 +5,12 @@
 //
 // The layout. n, d and b; the rules in the order of their places; the starts of the partitions; for every place and
 // field, where its run begins and where it ends. `layout` says where each number stands, for any n and d of 16 bits, and
-// `specs/Layout.antt` reads a table as a view, so that no definition above speaks of an offset.
+// `specs/Layout.antt` reads a table as a view, so that no definition above speaks of an offset; `read` gives the code the
+// same numbers by name.
 //
-// The opening. `open_fault` gives the refusals with which a lookup and a report begin.
+// The opening. `open_fault` gives the refusals with which a lookup and a report begin. `report` says of a partition how many
+// places it has and which rule number is its smallest.
 pub mod layout;
 pub mod opening;
+pub mod read;
+pub mod report;

@@ -1,9 +1,10 @@
 // Whether a table opens, and the refusals of one that does not.
-use crate::layout::FIELDS_AT;
-use crate::layout::PARTS_AT;
-use crate::layout::RULES_AT;
-use crate::layout::start_at;
+use crate::layout::D_AT;
+use crate::layout::N_AT;
 use crate::layout::table_length;
+use crate::read::number_at;
+use crate::read::part_count;
+use crate::read::start_of;
 use lists::shape::Shape;
 use lists::shape::rules_in;
 use lists::shape::shape_fault;
@@ -13,29 +14,28 @@ use ranges::refusal::Refusal;
 use ranges::refusal::refuse;
 ghost use mathlib.Core.Path.{_≡_};
 ghost use Rattle.lists.specs.Rules.{listed};
-ghost use Rattle.tables.specs.Layout.{view, TableFor};
+ghost use Rattle.tables.specs.Layout.{view};
 ghost use Rattle.tables.specs.Opening.{opening, openFault};
 
-// Says whether a table of the right length for n rules of d fields opens: its first two numbers are n and d, b is
-// at most n, its first start is 0, and its start number b is n.
+// Says whether a table opens for n rules of d fields: its first two numbers are n and d, b is at most n, its first start is
+// 0, and its start number b is n.
 fn opens(n: u16, d: u16, table: &[u16]) -> bool
-    requires { ⌜ TableFor n d (now table) ⌝ }
     ensures { λ r. ⌜ r ≡ opening n d (view n d (now (table .entry))) ⌝ }
 {
-    if table[RULES_AT] != n {
+    if number_at(table, N_AT) != n {
         return false;
     }
-    if table[FIELDS_AT] != d {
+    if number_at(table, D_AT) != d {
         return false;
     }
-    let b = table[PARTS_AT];
+    let b = part_count(table);
     if n < b {
         return false;
     }
-    if table[start_at(n, 0)] != 0 {
+    if start_of(table, n, 0) != 0 {
         return false;
     }
-    table[start_at(n, b)] == n
+    start_of(table, n, b) == n
 }
 
 // Gives the first of the refusals with which a lookup and a report begin, 1, 2, 3, 5 and 6 for the opening, that

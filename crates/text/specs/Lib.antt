@@ -1,3 +1,4 @@
+-- To be believed: what the contracts of public functions and the theorems say.
 pub mod Cells
 pub mod Rows
 pub mod Texts

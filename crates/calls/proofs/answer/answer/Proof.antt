@@ -2,7 +2,7 @@
 -- Assumes nothing.
 use borrow.Author.Needs.{needs}
 use native.Mathlib.Omega.{arith}
-use Rattle.calls.proofs.Few.{few-text, few-then}
+use Rattle.calls.proofs.Few.{few-text, few-then, few-more}
 use Rattle.calls.proofs.answer.answer.Statement.{statement}
 use Rattle.calls.proofs.answer.answer.Tie as tie
 
@@ -19,7 +19,9 @@ same-length-2 : tie.Need-same-length-2
 same-length-2 c = search needs
 
 returns : tie.Need-returns
-returns c = few-then (c .before .before .before .before .before .before .before .before .put-answer .ensures) (few-text 1 (omega arith) (c .before .before .put-byte .ensures))
+returns c =
+    few-more (omega arith)
+    (few-then (c .before .before .before .before .before .before .before .before .put-answer .ensures) (few-text 1 (omega arith) (c .before .before .put-byte .ensures)))
 
 pub answer-spec : {M : Type 1} → statement M
 answer-spec =

@@ -3,6 +3,7 @@
 use borrow.Author.Needs.{needs}
 use mathlib.Core.Path.{sym, _∙_}
 use native.Mathlib.Omega.{arith}
+use Rattle.calls.proofs.Longest.{table-most, table-run}
 use Rattle.calls.proofs.Parts.{table-told, tables-none, tables-cut, tables-wide, tables-are}
 use Rattle.calls.proofs.part.table_ends.Statement.{statement}
 use Rattle.calls.proofs.part.table_ends.Tie as tie
@@ -37,32 +38,32 @@ returns-2 : tie.Need-returns-2
 returns-2 c =
     let ran = c .before .before in
     let list = ran .before .before .before in
-    tables-cut _ _ (list .before .before .run-end .ensures) (list .first .given .1) (ran .before .run-end2 .ensures) (ran .exact .ensures) (c .enum-told2 .given .1)
+    tables-cut _ _ (list .before .before .run-end .ensures) (list .first .given .1) (table-run _ _ table-most (ran .before .run-end2 .ensures)) (ran .exact .ensures) (c .enum-told2 .given .1)
 
 add-from : tie.Need-add-from
 add-from c =
-    let t = table-told _ _ (c .before .before .before .before .run-end2 .ensures) (c .before .before .before .exact .ensures) (c .before .second .given .1) in
-    omega arith
+    let t = table-told _ _ (table-run _ _ table-most (c .before .before .before .before .run-end2 .ensures)) (c .before .before .before .exact .ensures) (c .before .second .given .1) in
+    omega (arith, table-most)
 
 mul-all-narrow : tie.Need-mul-all-narrow
 mul-all-narrow c =
-    let t = table-told _ _ (c .before .before .before .before .run-end2 .ensures) (c .before .before .before .exact .ensures) (c .before .second .given .1) in
-    omega arith
+    let t = table-told _ _ (table-run _ _ table-most (c .before .before .before .before .run-end2 .ensures)) (c .before .before .before .exact .ensures) (c .before .second .given .1) in
+    omega (arith, table-most)
 
 sub-all-narrow : tie.Need-sub-all-narrow
 sub-all-narrow c =
-    let t = table-told _ _ (c .before .before .before .before .run-end2 .ensures) (c .before .before .before .exact .ensures) (c .before .second .given .1) in
-    omega arith
+    let t = table-told _ _ (table-run _ _ table-most (c .before .before .before .before .run-end2 .ensures)) (c .before .before .before .exact .ensures) (c .before .second .given .1) in
+    omega (arith, table-most)
 
 part-all-narrow-start : tie.Need-part-all-narrow-start
 part-all-narrow-start c =
-    let t = table-told _ _ (c .before .before .before .before .run-end2 .ensures) (c .before .before .before .exact .ensures) (c .before .second .given .1) in
-    omega arith
+    let t = table-told _ _ (table-run _ _ table-most (c .before .before .before .before .run-end2 .ensures)) (c .before .before .before .exact .ensures) (c .before .second .given .1) in
+    omega (arith, table-most)
 
 part-all-narrow-end : tie.Need-part-all-narrow-end
 part-all-narrow-end c =
-    let t = table-told _ _ (c .before .before .before .before .run-end2 .ensures) (c .before .before .before .exact .ensures) (c .before .second .given .1) in
-    omega arith
+    let t = table-told _ _ (table-run _ _ table-most (c .before .before .before .before .run-end2 .ensures)) (c .before .before .before .exact .ensures) (c .before .second .given .1) in
+    omega (arith, table-most)
 
 all-narrow-requires : tie.Need-all-narrow-requires
 all-narrow-requires c κs = search needs
@@ -74,7 +75,7 @@ returns-3 c =
     let table = test .before .before .before in
     let ran = table .before .before in
     let list = ran .before .before .before in
-    tables-are _ _ (list .before .before .run-end .ensures) (list .first .given .1) (ran .before .run-end2 .ensures) (ran .exact .ensures) (table .second .given .1) (sym (test .all-narrow .ensures) ∙ c .if1 .taken)
+    tables-are _ _ (list .before .before .run-end .ensures) (list .first .given .1) (table-run _ _ table-most (ran .before .run-end2 .ensures)) (ran .exact .ensures) (table .second .given .1) (sym (test .all-narrow .ensures) ∙ c .if1 .taken)
 
 -- a number too large
 returns-4 : tie.Need-returns-4
@@ -83,7 +84,7 @@ returns-4 c =
     let table = test .before .before .before in
     let ran = table .before .before in
     let list = ran .before .before .before in
-    tables-wide _ _ (list .before .before .run-end .ensures) (list .first .given .1) (ran .before .run-end2 .ensures) (ran .exact .ensures) (table .second .given .1) (sym (test .all-narrow .ensures) ∙ c .if1 .left)
+    tables-wide _ _ (list .before .before .run-end .ensures) (list .first .given .1) (table-run _ _ table-most (ran .before .run-end2 .ensures)) (ran .exact .ensures) (table .second .given .1) (sym (test .all-narrow .ensures) ∙ c .if1 .left)
 
 pub table-ends-spec : {M : Type 1} → statement M
 table-ends-spec =

@@ -3,6 +3,7 @@
 use borrow.Author.Needs.{needs}
 use native.Mathlib.Omega.{arith}
 use Rattle.calls.proofs.Lent.{rest-lent, rest-long}
+use Rattle.calls.proofs.Longest.{table-most}
 use Rattle.calls.proofs.Words.{r2p-short, r2p-long, r2p-cut, r2p-call}
 use Rattle.calls.proofs.Few.{few-more}
 use Rattle.calls.proofs.prefix_words.call_r2p.Statement.{statement}
@@ -81,7 +82,7 @@ returns-4 c =
     let short = c .before .before .before .before .before .before .before .before .before .before .before .if2 .left in
     let all = c .before .before .before .before .before .before .before .before .before .before .if3 .left in
     let size = rest-long ns 4 in
-    rw (r2p-call ns (c .before .before .before .before .before .before .before .before .before .before .before .before .before .if1 .left) short all, ← rest-lent ns 4) (few-more (omega arith) (c .before .before .before .before .put-expanded .ensures))
+    rw (r2p-call ns (c .before .before .before .before .before .before .before .before .before .before .before .before .before .if1 .left) short all, ← rest-lent ns 4) (few-more (omega (arith, table-most)) (c .before .before .before .before .put-expanded .ensures))
 
 pub call-r2p-spec : {M : Type 1} → statement M
 call-r2p-spec =

@@ -7,7 +7,7 @@ use mathlib.Core.Path.{_≡_, refl, sym, _∙_}
 use borrow.Author.Tests.{not-false}
 use native.Mathlib.Omega.{arith}
 use lib.ListN.{length, take}
-use Rattle.calls.specs.Few.{answerMost}
+use Rattle.calls.specs.Limits.{answerMost}
 use Rattle.calls.specs.Lines.{heard}
 use Rattle.calls.specs.Replies.{Replied}
 use Rattle.calls.proofs.Serving.{served-on}

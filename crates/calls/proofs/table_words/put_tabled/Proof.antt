@@ -2,22 +2,26 @@
 -- Assumes nothing.
 use borrow.Author.Needs.{needs}
 use mathlib.Core.Path.{sym}
+use native.Mathlib.Omega.{arith}
+use Rattle.calls.proofs.Longest.{table-most}
 use Rattle.calls.proofs.Narrowing.{room-enough, room-within, room-count, room-front}
 use Rattle.calls.proofs.table_words.put_tabled.Statement.{statement}
 use Rattle.calls.proofs.table_words.put_tabled.Tie as tie
 
 array-borrow-prefix-table : tie.Need-array-borrow-prefix-table
-array-borrow-prefix-table c = search needs
+array-borrow-prefix-table c =
+    let s = c .before .before .before in
+    omega (arith, table-most)
 
 slice-aggregate-narrow : tie.Need-slice-aggregate-narrow
 slice-aggregate-narrow c =
     let s = c .before .before .before .before .before in
-    room-enough (s .args .numbers .now) (s .pre .few)
+    room-enough (s .args .numbers .now) table-most (s .pre .few)
 
 narrow-requires : tie.Need-narrow-requires
 narrow-requires c κs =
     let s = c .before .before .before .before .before in
-    (sym (room-enough (s .args .numbers .now) (s .pre .few)), s .pre .narrow)
+    (sym (room-enough (s .args .numbers .now) table-most (s .pre .few)), s .pre .narrow)
 
 array-borrow-prefix-table-2 : tie.Need-array-borrow-prefix-table-2
 array-borrow-prefix-table-2 c = room-within (c .before .narrow .ensures) _

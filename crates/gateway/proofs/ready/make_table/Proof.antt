@@ -1,4 +1,4 @@
--- `gateway::ready::make_table` meets its contract: a list that stands has a table of at most 18,436 numbers.
+-- `gateway::ready::make_table` meets its contract: a list that stands has a table no longer than the longest.
 -- Assumes nothing.
 use borrow.Author.Needs.{needs}
 use mathlib.Core.Path.{sym}

@@ -25,8 +25,8 @@ same-length-2 c = search needs
 returns : tie.Need-returns
 returns c = search needs
 
-verdict-requires : tie.Need-verdict-requires
-verdict-requires c κs = search needs
+rules-fault-requires : tie.Need-rules-fault-requires
+rules-fault-requires c κs = search needs
 
 put-refused-requires : tie.Need-put-refused-requires
 put-refused-requires c κs = search needs
@@ -46,38 +46,38 @@ same-length-5 c = search needs
 returns-2 : tie.Need-returns-2
 returns-2 c = search needs
 
-shape-of-requires : tie.Need-shape-of-requires
-shape-of-requires c κs = search needs
+shape-read-requires : tie.Need-shape-read-requires
+shape-read-requires c κs = search needs
 
 numbers-in-requires : tie.Need-numbers-in-requires
 numbers-in-requires c κs = search needs
 
 slice-reshare-prefix-make-table : tie.Need-slice-reshare-prefix-make-table
-slice-reshare-prefix-make-table c = stands-within _ _ (c .before .before .before .verdict .ensures) (c .before .before .if1 .left) (c .numbers-in .ensures)
+slice-reshare-prefix-make-table c = stands-within _ _ (c .before .before .before .rules-fault .ensures) (c .before .before .if1 .left) (c .numbers-in .ensures)
 
 slice-aggregate-make-table : tie.Need-slice-aggregate-make-table
 slice-aggregate-make-table c =
     let count = c .before in
-    sym (length-take-le _ _ (stands-within _ _ (count .before .before .before .verdict .ensures) (count .before .before .if1 .left) (count .numbers-in .ensures)))
+    sym (length-take-le _ _ (stands-within _ _ (count .before .before .before .rules-fault .ensures) (count .before .before .if1 .left) (count .numbers-in .ensures)))
 
 make-table-requires : tie.Need-make-table-requires
 make-table-requires c κs =
     let count = c .before .before in
     let test = count .before .before in
     let entry = test .before .before .before .before .before .before .before .before .before .before .before .before .before .before .before .before .before .before .before .before in
-    (stands-fine _ _ (test .before .verdict .ensures) (test .if1 .left) (count .numbers-in .ensures) (count .before .shape-of .ensures), entry .pre)
+    (stands-fine _ _ (test .before .rules-fault .ensures) (test .if1 .left) (count .numbers-in .ensures) (count .before .shape-read .ensures), entry .pre)
 
 slice-reshare-prefix-answer-all : tie.Need-slice-reshare-prefix-answer-all
 slice-reshare-prefix-answer-all c =
     let count = c .before .before .before .before .before in
     let test = count .before .before in
-    stands-within _ _ (test .before .verdict .ensures) (test .if1 .left) (count .numbers-in .ensures)
+    stands-within _ _ (test .before .rules-fault .ensures) (test .if1 .left) (count .numbers-in .ensures)
 
 slice-aggregate-answer-all : tie.Need-slice-aggregate-answer-all
 slice-aggregate-answer-all c =
     let count = c .before .before .before .before .before .before in
     let test = count .before .before in
-    sym (length-take-le _ _ (stands-within _ _ (test .before .verdict .ensures) (test .if1 .left) (count .numbers-in .ensures)))
+    sym (length-take-le _ _ (stands-within _ _ (test .before .rules-fault .ensures) (test .if1 .left) (count .numbers-in .ensures)))
 
 slice-reshare-prefix-answer-all-2 : tie.Need-slice-reshare-prefix-answer-all-2
 slice-reshare-prefix-answer-all-2 c = search needs
@@ -116,14 +116,14 @@ serve-files-spec =
     same-length
     same-length-2
     returns
-    verdict-requires
+    rules-fault-requires
     put-refused-requires
     flush-requires
     same-length-3
     same-length-4
     same-length-5
     returns-2
-    shape-of-requires
+    shape-read-requires
     numbers-in-requires
     slice-reshare-prefix-make-table
     slice-aggregate-make-table

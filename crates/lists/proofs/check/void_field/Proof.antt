@@ -4,7 +4,7 @@ use Prim.Native.Nat.{_-_}
 use mathlib.Core.Bool.{false}
 use native.Mathlib.Omega.{arith}
 use Rattle.lists.specs.Rules.{listed, isVoid}
-use Rattle.lists.proofs.Rules.{has-cell}
+use Rattle.lists.proofs.Rules.{has-field}
 use Rattle.lists.proofs.Search.{Answered, answered-none, answered-more, answered-least, answered-end}
 use Rattle.lists.proofs.check.void_field.Statement.{statement}
 use Rattle.lists.proofs.check.void_field.Tie as tie
@@ -22,7 +22,7 @@ loop-holds : tie.Need-loop-holds Inv-loop μ-loop
 loop-holds c = answered-none _ _ _
 
 void-at-requires : tie.Need-void-at-requires Inv-loop μ-loop
-void-at-requires c κs = has-cell (c .before .before .before .before .pre) (c .loop-test .taken)
+void-at-requires c κs = has-field (c .before .before .before .before .pre) (c .loop-test .taken)
 
 -- the first void field
 returns : tie.Need-returns Inv-loop μ-loop

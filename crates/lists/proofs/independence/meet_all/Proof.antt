@@ -7,7 +7,7 @@ use borrow.Author.Tests.{not-true, not-false}
 use native.Mathlib.Omega.{arith}
 use Rattle.lists.specs.Rules.{listed}
 use Rattle.lists.specs.Independence.{meetAt, meet}
-use Rattle.lists.proofs.Rules.{has-cell}
+use Rattle.lists.proofs.Rules.{has-field}
 use Rattle.lists.proofs.Search.{Answered, answered-none, answered-more, answered-all, answered-not}
 use Rattle.lists.proofs.independence.meet_all.Statement.{statement}
 use Rattle.lists.proofs.independence.meet_all.Tie as tie
@@ -27,7 +27,7 @@ loop-holds c = answered-none _ _ _
 meet-at-requires : tie.Need-meet-at-requires Inv-loop μ-loop
 meet-at-requires c κs =
     let start = c .before .before .before .before in
-    (has-cell (start .pre .0) (c .loop-test .taken), has-cell (start .pre .1) (c .loop-test .taken))
+    (has-field (start .pre .0) (c .loop-test .taken), has-field (start .pre .1) (c .loop-test .taken))
 
 -- a field in which they do not meet
 returns : tie.Need-returns Inv-loop μ-loop

@@ -6,7 +6,7 @@ use borrow.Author.Tests.{not-true, not-false}
 use native.Mathlib.Omega.{arith}
 use Rattle.lists.specs.Rules.{listed}
 use Rattle.lists.specs.FirstMatch.{insideAt, fits}
-use Rattle.lists.proofs.Rules.{has-cell}
+use Rattle.lists.proofs.Rules.{has-field}
 use Rattle.lists.proofs.Search.{Answered, answered-none, answered-more, answered-all, answered-not}
 use Rattle.lists.proofs.scan.fits_at.Statement.{statement}
 use Rattle.lists.proofs.scan.fits_at.Tie as tie
@@ -24,7 +24,7 @@ loop-holds : tie.Need-loop-holds Inv-loop μ-loop
 loop-holds c = answered-none _ _ _
 
 inside-at-requires : tie.Need-inside-at-requires Inv-loop μ-loop
-inside-at-requires c κs = has-cell (c .before .before .before .before .pre) (c .loop-test .taken)
+inside-at-requires c κs = has-field (c .before .before .before .before .pre) (c .loop-test .taken)
 
 -- a field that does not fit
 returns : tie.Need-returns Inv-loop μ-loop

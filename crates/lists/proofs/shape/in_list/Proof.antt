@@ -13,18 +13,18 @@ returns c = in-no-fields _ _ (c .if1 .taken)
 returns-2 : tie.Need-returns-2
 returns-2 c = in-many-fields _ _ (c .before .if1 .left) (c .if2 .taken)
 
-cast-cell : tie.Need-cast-cell
-cast-cell c = search needs
+cast-offset-of : tie.Need-cast-offset-of
+cast-offset-of c = search needs
 
-cast-cell-2 : tie.Need-cast-cell-2
-cast-cell-2 c = search needs
+cast-offset-of-2 : tie.Need-cast-offset-of-2
+cast-offset-of-2 c = search needs
 
-cell-requires : tie.Need-cell-requires
-cell-requires c κs = search needs
+offset-of-requires : tie.Need-offset-of-requires
+offset-of-requires c κs = search needs
 
 -- where the rule's last field ends
 returns-3 : tie.Need-returns-3
-returns-3 c = in-by _ _ _ (c .before .before .if1 .left) (c .before .if2 .left) (c .cell .ensures)
+returns-3 c = in-by _ _ _ (c .before .before .if1 .left) (c .before .if2 .left) (c .offset-of .ensures)
 
 pub in-list-spec : {M : Type 1} → statement M
-in-list-spec = tie.close (tie.spec returns returns-2 cast-cell cast-cell-2 cell-requires returns-3)
+in-list-spec = tie.close (tie.spec returns returns-2 cast-offset-of cast-offset-of-2 offset-of-requires returns-3)

@@ -5,7 +5,7 @@ use mathlib.Core.Path.{sym, _∙_}
 use native.Mathlib.Omega.{arith}
 use Rattle.lists.specs.Rules.{listed}
 use Rattle.lists.proofs.Rules.{within-by}
-use Rattle.lists.proofs.Faults.{shape-1, shape-1-many, counted-2, counted-3, counted-stands}
+use Rattle.lists.proofs.Faults.{shape-no-fields, shape-many-fields, counted-part-rule, counted-many-rules, counted-stands}
 use Rattle.lists.proofs.shape.shape_fault.Statement.{statement}
 use Rattle.lists.proofs.shape.shape_fault.Tie as tie
 
@@ -14,14 +14,14 @@ refuse-requires c κs = search needs
 
 -- 1: no field
 returns : tie.Need-returns
-returns c = c .refuse .ensures ∙ sym (shape-1 _ (c .before .if1 .taken))
+returns c = c .refuse .ensures ∙ sym (shape-no-fields _ (c .before .if1 .taken))
 
 refuse-requires-2 : tie.Need-refuse-requires-2
 refuse-requires-2 c κs = search needs
 
 -- 1: more than eight fields
 returns-2 : tie.Need-returns-2
-returns-2 c = c .refuse2 .ensures ∙ sym (shape-1-many _ (c .before .before .if1 .left) (c .before .if2 .taken))
+returns-2 c = c .refuse2 .ensures ∙ sym (shape-many-fields _ (c .before .before .if1 .left) (c .before .if2 .taken))
 
 rules-in-requires : tie.Need-rules-in-requires
 rules-in-requires c κs = search needs
@@ -44,7 +44,7 @@ returns-3 : tie.Need-returns-3
 returns-3 c =
     let t = c .before in
     let n = t .before in
-    c .refuse3 .ensures ∙ sym (counted-2 _ _ (n .rules-in .ensures) (n .before .before .if1 .left) (n .before .if2 .left) (t .if3 .taken))
+    c .refuse3 .ensures ∙ sym (counted-part-rule _ _ (n .rules-in .ensures) (n .before .before .if1 .left) (n .before .if2 .left) (t .if3 .taken))
 
 refuse-requires-4 : tie.Need-refuse-requires-4
 refuse-requires-4 c κs = search needs
@@ -55,7 +55,7 @@ returns-4 c =
     let t = c .before in
     let n = t .before .before in
     c .refuse4 .ensures
-    ∙ sym (counted-3 _ _ (n .rules-in .ensures) (n .before .before .if1 .left) (n .before .if2 .left) (t .before .if3 .left) (t .if4 .taken))
+    ∙ sym (counted-many-rules _ _ (n .rules-in .ensures) (n .before .before .if1 .left) (n .before .if2 .left) (t .before .if3 .left) (t .if4 .taken))
 
 refuse-requires-5 : tie.Need-refuse-requires-5
 refuse-requires-5 c κs = search needs

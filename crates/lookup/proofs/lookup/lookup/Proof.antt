@@ -1,9 +1,8 @@
--- `lookup::lookup::lookup` meets its contract: a table that does not open is refused as `open_fault` says; one that opens is of the
--- right length, so b stands in it and the search may rely on it.
+-- `lookup::lookup::lookup` meets its contract: a table that does not open is refused as `open_fault` says; one that opens is searched.
 -- Assumes nothing.
 use borrow.Author.Needs.{needs}
 use native.Mathlib.Omega.{arith}
-use Rattle.lookup.proofs.Lookups.{by-refused, by-parts-read, by-few, by-ready, by-parts, by-search}
+use Rattle.lookup.proofs.Lookups.{by-refused, by-few, by-ready, by-parts, by-search}
 use Rattle.lookup.proofs.lookup.lookup.Statement.{statement}
 use Rattle.lookup.proofs.lookup.lookup.Tie as tie
 
@@ -22,17 +21,17 @@ cast-n c =
     let stands = c .before in
     omega (arith, by-few _ _ _ (stands .before .before .open-fault .ensures) (stands .if1 .left) _ (c .rules-in .ensures))
 
-shared-slice-read-b : tie.Need-shared-slice-read-b
-shared-slice-read-b c =
-    let stands = c .before .before in
-    by-parts-read _ _ _ (stands .before .before .open-fault .ensures) (stands .if1 .left)
+part-count-requires : tie.Need-part-count-requires
+part-count-requires c κs = search needs
 
 visit-all-requires : tie.Need-visit-all-requires
 visit-all-requires c κs =
     let counted = c .before .before in
     let stands = counted .before in
-    let fault = stands .before .before .open-fault in
-    (by-ready _ _ _ (fault .ensures) (stands .if1 .left) _ (counted .rules-in .ensures), by-parts _ _ _ (fault .ensures) (stands .if1 .left) _ (counted .rules-in .ensures))
+    let fault = stands .before .before .open-fault in (
+      by-ready _ _ _ (fault .ensures) (stands .if1 .left) _ (counted .rules-in .ensures),
+      by-parts _ _ _ (fault .ensures) (stands .if1 .left) _ (counted .rules-in .ensures) (c .before .part-count .ensures),
+    )
 
 -- all partitions
 returns-2 : tie.Need-returns-2
@@ -40,9 +39,9 @@ returns-2 c =
     let counted = c .before .before .before in
     let stands = counted .before in
     let fault = stands .before .before .open-fault in
-    by-search _ _ _ (fault .ensures) (stands .if1 .left) _ (counted .rules-in .ensures) _ _ (c .visit-all .ensures)
+    by-search _ _ _ (fault .ensures) (stands .if1 .left) _ (counted .rules-in .ensures) (c .before .before .part-count .ensures) _ _ (c .visit-all .ensures)
 
 pub lookup-spec : {M : Type 1} → statement M
 lookup-spec =
     tie.close
-    (tie.spec open-fault-requires returns rules-in-requires cast-n shared-slice-read-b visit-all-requires returns-2)
+    (tie.spec open-fault-requires returns rules-in-requires cast-n part-count-requires visit-all-requires returns-2)

@@ -8,7 +8,7 @@ use Prim.Native.Nat.{_-_, _≤_}
 use Rattle.lists.specs.Rules.{listed}
 use Rattle.tables.specs.Layout.{view}
 use Rattle.lookup.specs.declared.lookup.Looked.the-variants.{Refused}
-use Rattle.lookup.proofs.Within.{few-rules}
+use Rattle.lookup.proofs.Within.{few-rules, few-fields}
 use Rattle.lookup.proofs.Visits.{Visited, told-few, visited-none, visited-broken, visited-miss, visited-sooner, visited-later, visited-match, visited-nothing}
 use Rattle.lookup.proofs.lookup.visit_all.Statement.{statement}
 use Rattle.lookup.proofs.lookup.visit_all.Tie as tie
@@ -60,7 +60,7 @@ tests-few c =
     let a = st .args in
     let R = listed (a .shape) (a .list .now) in
     let lent = st .pre .0 in
-    told-few R (view (a .n) (a .shape .d) (a .table .now)) (a .header .now) (turn .before .loop .q) (few-rules R _ _ lent) (lent .few-fields) _ _ _
+    told-few R (view (a .n) (a .shape .d) (a .table .now)) (a .header .now) (turn .before .loop .q) (few-rules lent) (few-fields lent) _ _ _
     (visited .visit .ensures) (ran .walked .given .1)
 
 cast-total : tie.Need-cast-total Inv-loop μ-loop
@@ -70,7 +70,7 @@ add-total : tie.Need-add-total Inv-loop μ-loop
 add-total c =
     let turn = c .before .before .before .before in
     let st = turn .before .before .before .before in
-    omega (arith, tests-few c, turn .before .loop .inv .few-tests, turn .loop-test .taken, st .pre .1, st .pre .0 .few-rules)
+    omega (arith, tests-few c, turn .before .loop .inv .few-tests, turn .loop-test .taken, st .pre .1, st .pre .0 .rules, few-rules (st .pre .0))
 
 enum-known-found : tie.Need-enum-known-found Inv-loop μ-loop
 enum-known-found c = search needs
@@ -88,7 +88,7 @@ loop-again c =
     let visited = ran .before .before in
     let turn = visited .before in
     let lent = turn .before .before .before .before .pre .0 in
-    visited-miss (turn .before .loop .inv) (few-rules _ _ _ lent) (lent .few-fields) (turn .loop-test .taken) _ _ _
+    visited-miss (turn .before .loop .inv) (few-rules lent) (few-fields lent) (turn .loop-test .taken) _ _ _
     (visited .visit .ensures) (ran .walked .given .1) (c .enum-told2 .given .1)
 
 loop-less-2 : tie.Need-loop-less-2 Inv-loop μ-loop
@@ -102,7 +102,7 @@ loop-again-2 c =
     let visited = ran .before .before in
     let turn = visited .before in
     let lent = turn .before .before .before .before .pre .0 in
-    visited-sooner (turn .before .loop .inv) (few-rules _ _ _ lent) (lent .few-fields) (turn .loop-test .taken) _ _ _
+    visited-sooner (turn .before .loop .inv) (few-rules lent) (few-fields lent) (turn .loop-test .taken) _ _ _
     (visited .visit .ensures) (ran .walked .given .1) _ (hit .found .given .1) (c .if1 .taken)
 
 loop-less-3 : tie.Need-loop-less-3 Inv-loop μ-loop
@@ -116,7 +116,7 @@ loop-again-3 c =
     let visited = ran .before .before in
     let turn = visited .before in
     let lent = turn .before .before .before .before .pre .0 in
-    visited-later (turn .before .loop .inv) (few-rules _ _ _ lent) (lent .few-fields) (turn .loop-test .taken) _ _ _
+    visited-later (turn .before .loop .inv) (few-rules lent) (few-fields lent) (turn .loop-test .taken) _ _ _
     (visited .visit .ensures) (ran .walked .given .1) _ (hit .found .given .1) (c .if1 .left)
 
 cast-t18 : tie.Need-cast-t18 Inv-loop μ-loop

@@ -16,8 +16,8 @@ add-if1 c = search needs
 returns : tie.Need-returns
 returns c = sym (arrive-many _ _ _ _ _ _ (c .if1 .taken))
 
-rule-at-requires : tie.Need-rule-at-requires
-rule-at-requires c κs =
+rule-in-requires : tie.Need-rule-in-requires
+rule-in-requires c κs =
     let st = c .before .before .before in
     order-read (st .pre .0) (st .args .s) (omega arith)
 
@@ -29,9 +29,9 @@ returns-2 : tie.Need-returns-2
 returns-2 c =
     let told = c .before in
     let read = told .before .before in
-    let lent = read .before .before .before .before .pre .0 in
+    let lent = read .before .before .before .before .pre .0 .shape-stands in
     sym
-    (arrive-unfit _ _ _ _ _ _ _ (lent .some-fields) (lent .few-fields) (read .before .if1 .left) (read .rule-at .ensures)
+    (arrive-unfit _ _ _ _ _ _ _ (lent .some-fields) (lent .few-fields) (read .before .if1 .left) (read .rule-in .ensures)
     (sym (told .rule-fits .ensures) ∙ not-true _ (c .if2 .taken)))
 
 -- the candidate
@@ -39,10 +39,10 @@ returns-3 : tie.Need-returns-3
 returns-3 c =
     let told = c .before in
     let read = told .before .before in
-    let lent = read .before .before .before .before .pre .0 in
+    let lent = read .before .before .before .before .pre .0 .shape-stands in
     sym
-    (arrive-fits _ _ _ _ _ _ _ (lent .some-fields) (lent .few-fields) (read .before .if1 .left) (read .rule-at .ensures)
+    (arrive-fits _ _ _ _ _ _ _ (lent .some-fields) (lent .few-fields) (read .before .if1 .left) (read .rule-in .ensures)
     (sym (told .rule-fits .ensures) ∙ not-false _ (c .if2 .left)))
 
 pub arrive-spec : {M : Type 1} → statement M
-arrive-spec = tie.close (tie.spec add-if1 returns rule-at-requires rule-fits-requires returns-2 returns-3)
+arrive-spec = tie.close (tie.spec add-if1 returns rule-in-requires rule-fits-requires returns-2 returns-3)

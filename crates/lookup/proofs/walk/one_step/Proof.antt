@@ -10,13 +10,13 @@ use Rattle.ranges.specs.declared.side.Side.the-variants.{Below, Above, Inside}
 use Rattle.lists.specs.Rules.{listed}
 use Rattle.tables.specs.Layout.{view}
 use Rattle.lookup.specs.Walk.{leaves, stepOf}
-use Rattle.lookup.proofs.Within.{order-read, from-read, to-read, cell-read}
+use Rattle.lookup.proofs.Within.{few-fields, order-read, from-read, to-read, field-read}
 use Rattle.lookup.proofs.Steps.{step-beyond, step-astray, step-told}
 use Rattle.lookup.proofs.walk.one_step.Statement.{statement}
 use Rattle.lookup.proofs.walk.one_step.Tie as tie
 
 cast-d : tie.Need-cast-d
-cast-d c = search needs
+cast-d c = omega (arith, few-fields (c .before .before .before .pre .0))
 
 sub-mid : tie.Need-sub-mid
 sub-mid c = search needs
@@ -24,8 +24,8 @@ sub-mid c = search needs
 add-mid : tie.Need-add-mid
 add-mid c = search needs
 
-rule-at-requires : tie.Need-rule-at-requires
-rule-at-requires c κs =
+rule-in-requires : tie.Need-rule-in-requires
+rule-in-requires c κs =
     let st = c .before .before .before in
     order-read (st .pre .0) _ (omega arith)
 
@@ -33,15 +33,15 @@ rule-at-requires c κs =
 returns : tie.Need-returns
 returns c =
     let read = c .before in
-    sym (step-beyond _ _ _ _ _ _ _ _ _ (read .before .before .before .before .pre .0 .rules) (read .rule-at .ensures) (c .if1 .taken))
+    sym (step-beyond _ _ _ _ _ _ _ _ _ (read .before .before .before .before .pre .0 .rules) (read .rule-in .ensures) (c .if1 .taken))
 
-run-from-requires : tie.Need-run-from-requires
-run-from-requires c κs =
+from-in-requires : tie.Need-from-in-requires
+from-in-requires c κs =
     let st = c .before .before .before .before .before in
     from-read (st .pre .0) _ (st .args .f) (omega arith) (st .pre .1 .in-row)
 
-run-to-requires : tie.Need-run-to-requires
-run-to-requires c κs =
+to-in-requires : tie.Need-to-in-requires
+to-in-requires c κs =
     let st = c .before .before .before .before .before .before in
     to-read (st .pre .0) _ (st .args .f) (omega arith) (st .pre .1 .in-row)
 
@@ -57,14 +57,14 @@ returns-2 c =
     let under = from .before in
     let read = under .before in
     sym
-    (step-astray _ _ _ _ _ _ _ _ _ (read .before .before .before .before .pre .0 .rules) (read .rule-at .ensures) _ _ (from .run-from .ensures) (to .run-to .ensures)
+    (step-astray _ _ _ _ _ _ _ _ _ (read .before .before .before .before .pre .0 .rules) (read .rule-in .ensures) _ _ (from .from-in .ensures) (to .to-in .ensures)
     (under .if1 .left) _ (told .run-stands .ensures) (not-true _ (c .if2 .taken)))
 
 side-at-requires : tie.Need-side-at-requires
 side-at-requires c κs =
     let under = c .before .before .before .before in
     let st = under .before .before .before .before .before in
-    cell-read (st .pre .0) (under .before .rule-at .result) (st .args .f) (under .if1 .left) (st .pre .1 .in-row)
+    field-read (st .pre .0) (under .before .rule-in .result) (st .args .f) (under .if1 .left) (st .pre .1 .in-row)
 
 enum-told : tie.Need-enum-told
 enum-told c = search needs
@@ -81,7 +81,7 @@ add-t20 c = search needs
 -- the test itself, whatever its outcome x
 by-side : (c : tie.After-side-at) (x : Side) → c .side-at .result ≡ x
     → (let a = c .before .before .before .before .before .before .before .before .before .before .args in
-    leaves x (a .s) (a .e) (a .f) (c .before .before .before .before .run-from .result) (c .before .before .before .run-to .result)
+    leaves x (a .s) (a .e) (a .f) (c .before .before .before .before .from-in .result) (c .before .before .before .to-in .result)
     ≡ stepOf (listed (a .shape) (a .list .now)) (view (a .n) (a .shape .d) (a .table .now)) (a .header .now) (a .s) (a .e) (a .f))
 by-side c x is-x =
     let told = c .before .before in
@@ -90,7 +90,7 @@ by-side c x is-x =
     let under = from .before in
     let read = under .before in
     sym
-    (step-told _ _ _ _ _ _ _ _ _ (read .before .before .before .before .pre .0 .rules) (read .rule-at .ensures) _ _ (from .run-from .ensures) (to .run-to .ensures)
+    (step-told _ _ _ _ _ _ _ _ _ (read .before .before .before .before .pre .0 .rules) (read .rule-in .ensures) _ _ (from .from-in .ensures) (to .to-in .ensures)
     (under .if1 .left) _ _ x (told .run-stands .ensures) (not-false _ (c .before .if2 .left)) (c .side-at .ensures) is-x)
 
 -- below
@@ -112,10 +112,10 @@ one-step-spec =
     cast-d
     sub-mid
     add-mid
-    rule-at-requires
+    rule-in-requires
     returns
-    run-from-requires
-    run-to-requires
+    from-in-requires
+    to-in-requires
     run-stands-requires
     returns-2
     side-at-requires

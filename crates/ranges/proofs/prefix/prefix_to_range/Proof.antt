@@ -3,10 +3,11 @@
 -- Assumes nothing.
 use borrow.Author.Needs.{needs}
 use Prim.Native.Nat.{_-_}
+use mathlib.Core.Logic.{inl, inr}
 use mathlib.Core.Path.{sym, ap, _∙_}
 use Rattle.ranges.specs.declared.prefix.Bounds.the-variants.{Are, Refused}
 use Rattle.ranges.proofs.Widths.{masked, masked-or}
-use Rattle.ranges.proofs.Prefixes.{past-ones, within-ones, bounds-9-few, bounds-9-many, bounds-10-long, bounds-10-value, bounds-10-bit, bounds-are}
+use Rattle.ranges.proofs.Prefixes.{past-ones, within-ones, bounds-9-iff, bounds-10-iff, bounds-are}
 use Rattle.ranges.proofs.prefix.prefix_to_range.Statement.{statement}
 use Rattle.ranges.proofs.prefix.prefix_to_range.Tie as tie
 
@@ -15,16 +16,14 @@ refuse-requires c κs = search needs
 
 -- 9: no bit
 returns : tie.Need-returns
-returns c = ap Refused (c .refuse .ensures) ∙ sym (bounds-9-few _ _ _ (c .before .if1 .taken))
+returns c = ap Refused (c .refuse .ensures) ∙ sym (bounds-9-iff _ _ _ .1 (inl (c .before .if1 .taken)))
 
 refuse-requires-2 : tie.Need-refuse-requires-2
 refuse-requires-2 c κs = search needs
 
 -- 9: more than 32 bits
 returns-2 : tie.Need-returns-2
-returns-2 c =
-    let t = c .before in
-    ap Refused (c .refuse2 .ensures) ∙ sym (bounds-9-many _ _ _ (t .before .if1 .left) (t .if2 .taken))
+returns-2 c = ap Refused (c .refuse2 .ensures) ∙ sym (bounds-9-iff _ _ _ .1 (inr (c .before .if2 .taken)))
 
 refuse-requires-3 : tie.Need-refuse-requires-3
 refuse-requires-3 c κs = search needs
@@ -33,7 +32,8 @@ refuse-requires-3 c κs = search needs
 returns-3 : tie.Need-returns-3
 returns-3 c =
     let t = c .before in
-    ap Refused (c .refuse3 .ensures) ∙ sym (bounds-10-long _ _ _ (t .before .before .if1 .left) (t .before .if2 .left) (t .if3 .taken))
+    ap Refused (c .refuse3 .ensures)
+    ∙ sym (bounds-10-iff _ _ _ .1 (record { some-bits = t .before .before .if1 .left; few-bits = t .before .if2 .left; cause = inl (t .if3 .taken) }))
 
 low-ones-requires : tie.Need-low-ones-requires
 low-ones-requires c κs = search needs
@@ -46,10 +46,10 @@ returns-4 : tie.Need-returns-4
 returns-4 c =
     let t = c .before in
     let all = t .before in
-    let s = all .before in
+    let s = all .before .before in
+    let wide = past-ones _ _ _ (all .low-ones .ensures) (t .if4 .taken) in
     ap Refused (c .refuse4 .ensures)
-    ∙ sym
-    (bounds-10-value _ _ _ (s .before .before .if1 .left) (s .before .if2 .left) (s .if3 .left) (past-ones _ _ _ (all .low-ones .ensures) (t .if4 .taken)))
+    ∙ sym (bounds-10-iff _ _ _ .1 (record { some-bits = s .before .if1 .left; few-bits = s .if2 .left; cause = inr (inl wide) }))
 
 low-ones-requires-2 : tie.Need-low-ones-requires-2
 low-ones-requires-2 c κs = search needs
@@ -62,14 +62,11 @@ returns-5 : tie.Need-returns-5
 returns-5 c =
     let t = c .before in
     let below = t .before in
-    let fits = below .before in
-    let all = fits .before in
-    let s = all .before in
-    let a = s .before .before .before .args in
+    let s = below .before .before .before .before in
+    let a = s .before .before .args in
+    let mask = masked (a .value) (a .width - a .length) _ (below .low-ones2 .ensures) in
     ap Refused (c .refuse5 .ensures)
-    ∙ sym
-    (bounds-10-bit _ _ _ (s .before .before .if1 .left) (s .before .if2 .left) (s .if3 .left) (within-ones _ _ _ (all .low-ones .ensures) (fits .if4 .left))
-    (λ even. t .if5 .taken (masked (a .value) (a .width - a .length) _ (below .low-ones2 .ensures) ∙ even)))
+    ∙ sym (bounds-10-iff _ _ _ .1 (record { some-bits = s .before .if1 .left; few-bits = s .if2 .left; cause = inr (inr (λ even. t .if5 .taken (mask ∙ even))) }))
 
 -- the range
 returns-6 : tie.Need-returns-6

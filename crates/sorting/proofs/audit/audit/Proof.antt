@@ -4,9 +4,9 @@ use borrow.Author.Needs.{needs}
 use mathlib.Core.Path.{sym, _∙_}
 use Rattle.lists.proofs.Faults.{by-refused}
 use Rattle.sorting.specs.declared.audit.Verdict.the-variants.{Refused}
-use Rattle.sorting.proofs.Room.{room-long}
-use Rattle.sorting.proofs.Building.{built-fine}
-use Rattle.sorting.proofs.Auditing.{table-few, table-asked, table-back, table-count, table-front, audit-yes, audit-no}
+use Rattle.sorting.proofs.Writing.Room.{room-long}
+use Rattle.sorting.proofs.Answering.Building.{built-fine}
+use Rattle.sorting.proofs.Answering.Auditing.{room-enough, table-asked, table-back, table-count, table-front, audit-yes, audit-no}
 use Rattle.sorting.proofs.audit.audit.Statement.{statement}
 use Rattle.sorting.proofs.audit.audit.Tie as tie
 
@@ -18,12 +18,12 @@ returns : tie.Need-returns
 returns c = by-refused _ _ (c .before .before .build-fault .ensures) Refused _ (c .if1 .taken)
 
 array-borrow-prefix-built : tie.Need-array-borrow-prefix-built
-array-borrow-prefix-built c = table-few (built-fine _ _ _ (c .before .before .build-fault .ensures) (c .if1 .left))
+array-borrow-prefix-built c = room-enough (built-fine _ _ _ (c .before .before .build-fault .ensures) (c .if1 .left))
 
 slice-aggregate-write-built : tie.Need-slice-aggregate-write-built
 slice-aggregate-write-built c =
     let t = c .before in
-    room-long 18436 _ (table-few (built-fine _ _ _ (t .before .before .build-fault .ensures) (t .if1 .left)))
+    room-long 18436 _ (room-enough (built-fine _ _ _ (t .before .before .build-fault .ensures) (t .if1 .left)))
 
 write-built-requires : tie.Need-write-built-requires
 write-built-requires c κs =

@@ -4,16 +4,16 @@ use native.Mathlib.Omega.{arith}
 use borrow.Author.Needs.{needs}
 use Prim.Native.Nat.{_-_}
 use mathlib.Core.Bool.{true}
-use mathlib.Core.Path.{refl}
-use lib.Dec.{eqb}
-use lib.ListN.{length, getD}
+use mathlib.Core.Path.{refl, _∙_}
+use lib.ListN.{length}
 use borrow.Author.Tests.{eq-eqb, ne-eqb}
 use Rattle.lists.proofs.Search.{Answered, answered-none, answered-more, answered-all, answered-not}
+use Rattle.sorting.proofs.Answering.Auditing.{agree, same-by}
 use Rattle.sorting.proofs.audit.same_numbers.Statement.{statement}
 use Rattle.sorting.proofs.audit.same_numbers.Tie as tie
 
 abbrev Inv-loop : tie.InvT-loop
-Inv-loop a b k₀ k = Answered (λ j. eqb (getD a j 0) (getD b j 0)) true (length a) k
+Inv-loop a b k₀ k = Answered (agree a b) true (length a) k
 
 abbrev μ-loop : tie.MeasureT-loop
 μ-loop a b k₀ k = length a - k
@@ -37,7 +37,9 @@ shared-slice-read-if1-2 c = search needs
 returns : tie.Need-returns Inv-loop μ-loop
 returns c =
     let at-test = c .before .before .before in
+    let a = at-test .before .before in
     answered-not (at-test .before .loop .inv) (at-test .loop-test .taken) refl (ne-eqb _ _ (c .if1 .taken))
+    ∙ same-by (a .args .a .now) (a .args .b .now) (a .pre)
 
 add-k : tie.Need-add-k Inv-loop μ-loop
 add-k c = search needs
@@ -52,7 +54,10 @@ loop-again c =
 
 -- all the same
 returns-2 : tie.Need-returns-2 Inv-loop μ-loop
-returns-2 c = answered-all (c .before .loop .inv) (c .loop-test .left)
+returns-2 c =
+    let loop = c .before in
+    let a = loop .before in
+    answered-all (loop .loop .inv) (c .loop-test .left) ∙ same-by (a .args .a .now) (a .args .b .now) (a .pre)
 
 pub same-numbers-spec : {M : Type 1} → statement M
 same-numbers-spec =

@@ -1,7 +1,7 @@
 -- `sorting::build::build` meets its contract: a refusal leaves the table as lent, and else every number is written.
 -- Assumes nothing.
 use borrow.Author.Needs.{needs}
-use Rattle.sorting.proofs.Building.{built-refused, built-fine, built-written}
+use Rattle.sorting.proofs.Answering.Building.{built-refused, built-fine, built-written}
 use Rattle.sorting.proofs.build.build.Statement.{statement}
 use Rattle.sorting.proofs.build.build.Tie as tie
 

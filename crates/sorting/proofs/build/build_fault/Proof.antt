@@ -5,7 +5,7 @@ use borrow.Author.Needs.{needs}
 use mathlib.Core.Path.{sym, _∙_}
 use Rattle.lists.proofs.Faults.{by-refused, by-listed}
 use Rattle.sorting.specs.Build.{buildFault}
-use Rattle.sorting.proofs.BuildFaults.{build-by-length, build-by-fine}
+use Rattle.sorting.proofs.Answering.BuildFaults.{build-by-length, build-by-fine}
 use Rattle.sorting.proofs.build.build_fault.Statement.{statement}
 use Rattle.sorting.proofs.build.build_fault.Tie as tie
 

@@ -4,7 +4,7 @@ use Prim.Native.Nat.{_-_}
 use mathlib.Core.Path.{_≡_, sym, _∙_}
 use lib.Seq.{length-take-le}
 use Rattle.lists.specs.Rules.{listed, rulesIn}
-use Rattle.sorting.proofs.Choosing.{Choosing, choosing-none, choosing-marks, choosing-more, choosing-numbers, choosing-end}
+use Rattle.sorting.proofs.Partitions.Choosing.{Choosing, choosing-none, choosing-marks, choosing-more, choosing-numbers, choosing-end}
 use native.Mathlib.Omega.{arith}
 use borrow.Author.Needs.{needs}
 use Rattle.sorting.proofs.choose.choose.Statement.{statement}

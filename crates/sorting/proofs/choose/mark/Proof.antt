@@ -2,7 +2,7 @@
 -- Assumes nothing.
 use Prim.Native.Nat.{_-_}
 use Rattle.lists.specs.Rules.{listed}
-use Rattle.sorting.proofs.Stamps.{Stamping, part-few, stamping-none, stamping-more, stamping-end}
+use Rattle.sorting.proofs.Partitions.Stamps.{Stamping, part-few, stamping-none, stamping-more, stamping-end}
 use native.Mathlib.Omega.{arith}
 use borrow.Author.Needs.{needs}
 use Rattle.sorting.proofs.choose.mark.Statement.{statement}

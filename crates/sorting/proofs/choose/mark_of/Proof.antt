@@ -1,7 +1,7 @@
 -- `sorting::choose::mark_of` meets its contract: at each way out the tests that led there give the law of that stamp.
 -- Assumes nothing.
 use mathlib.Core.Path.{sym, _∙_}
-use Rattle.sorting.proofs.Stamps.{mark-old, mark-clash, mark-keep}
+use Rattle.sorting.proofs.Partitions.Stamps.{mark-old, mark-clash, mark-keep}
 use borrow.Author.Needs.{needs}
 use Rattle.sorting.proofs.choose.mark_of.Statement.{statement}
 use Rattle.sorting.proofs.choose.mark_of.Tie as tie

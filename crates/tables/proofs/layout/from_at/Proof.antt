@@ -1,31 +1,31 @@
--- `tables::layout::from_at` meets its contract: of numbers of 16 bits, the product stays far below a word.
+-- `tables::layout::from_at` meets its contract: it is the last start and one, and what comes before in the rows.
 -- Assumes nothing.
 use borrow.Author.Needs.{needs}
-use mathlib.Core.Path.{refl}
 use native.Mathlib.Omega.{arith}
-use Rattle.lists.proofs.Rules.{square-few}
 use Rattle.tables.specs.Layout.{fromAt}
+use Rattle.tables.proofs.Offsets.{start-few, row-few}
 use Rattle.tables.proofs.layout.from_at.Statement.{statement}
 use Rattle.tables.proofs.layout.from_at.Tie as tie
 
-mul-result : tie.Need-mul-result
-mul-result c = search needs
+start-at-requires : tie.Need-start-at-requires
+start-at-requires c κs = search needs
 
 add-result : tie.Need-add-result
-add-result c = search needs
+add-result c =
+    let fit = c .before .fits in
+    omega (arith, c .start-at .ensures, start-few (fit .room .fits) (fit .room .fits))
 
-mul-result-2 : tie.Need-mul-result-2
-mul-result-2 c = omega (arith, square-few (c .args .d) (c .args .p) (c .fits .d .fits) (c .fits .p .fits))
+row-of-requires : tie.Need-row-of-requires
+row-of-requires c κs = search needs
 
 add-result-2 : tie.Need-add-result-2
-add-result-2 c = omega (arith, square-few (c .args .d) (c .args .p) (c .fits .d .fits) (c .fits .p .fits))
-
-add-result-3 : tie.Need-add-result-3
-add-result-3 c = omega (arith, square-few (c .args .d) (c .args .p) (c .fits .d .fits) (c .fits .p .fits))
+add-result-2 c =
+    let fit = c .before .before .fits in
+    omega (arith, c .before .start-at .ensures, start-few (fit .room .fits) (fit .room .fits), c .row-of .ensures, row-few (fit .d .fits) (fit .p .fits) (fit .f .fits))
 
 returns : tie.Need-returns
 unfolding fromAt
-returns c = refl
+returns c = rw (c .before .start-at .ensures, c .row-of .ensures)
 
 pub from-at-spec : {M : Type 1} → statement M
-from-at-spec = tie.close (tie.spec mul-result add-result mul-result-2 add-result-2 add-result-3 returns)
+from-at-spec = tie.close (tie.spec start-at-requires add-result row-of-requires add-result-2 returns)

@@ -1,4 +1,4 @@
--- `tables::layout::order_at` meets its contract: the sum of numbers of 16 bits fits a word.
+-- `tables::layout::order_at` meets its contract: the sum of a number of 16 bits fits a word.
 -- Assumes nothing.
 use borrow.Author.Needs.{needs}
 use mathlib.Core.Path.{refl}

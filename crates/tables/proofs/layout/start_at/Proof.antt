@@ -1,20 +1,23 @@
 -- `tables::layout::start_at` meets its contract: the sum of numbers of 16 bits fits a word.
 -- Assumes nothing.
 use borrow.Author.Needs.{needs}
-use mathlib.Core.Path.{refl}
-use Rattle.tables.specs.Layout.{startAt}
+use mathlib.Core.Path.{ap}
+use Prim.Native.Nat.{_+_}
+use native.Mathlib.Omega.{arith}
+use Rattle.tables.specs.Layout.{orderAt, startAt}
 use Rattle.tables.proofs.layout.start_at.Statement.{statement}
 use Rattle.tables.proofs.layout.start_at.Tie as tie
 
-add-result : tie.Need-add-result
-add-result c = search needs
+order-at-requires : tie.Need-order-at-requires
+order-at-requires c κs = search needs
 
-add-result-2 : tie.Need-add-result-2
-add-result-2 c = search needs
+add-result : tie.Need-add-result
+unfolding orderAt
+add-result c = omega (arith, c .order-at .ensures, c .before .fits .room .fits, c .before .fits .q .fits)
 
 returns : tie.Need-returns
 unfolding startAt
-returns c = refl
+returns c = rw (c .order-at .ensures)
 
 pub start-at-spec : {M : Type 1} → statement M
-start-at-spec = tie.close (tie.spec add-result add-result-2 returns)
+start-at-spec = tie.close (tie.spec order-at-requires add-result returns)

@@ -1,37 +1,32 @@
--- `tables::layout::to_at` meets its contract: of numbers of 16 bits, the product stays far below a word.
+-- `tables::layout::to_at` meets its contract: it is the end of the run-froms, and what comes before in the rows.
 -- Assumes nothing.
 use borrow.Author.Needs.{needs}
-use mathlib.Core.Path.{refl}
 use native.Mathlib.Omega.{arith}
-use Rattle.lists.proofs.Rules.{square-few}
 use Rattle.tables.specs.Layout.{toAt}
+use Rattle.tables.proofs.Offsets.{from-few, row-few}
 use Rattle.tables.proofs.layout.to_at.Statement.{statement}
 use Rattle.tables.proofs.layout.to_at.Tie as tie
 
-mul-result : tie.Need-mul-result
-mul-result c = search needs
+from-at-requires : tie.Need-from-at-requires
+from-at-requires c κs = search needs
+
+row-of-requires : tie.Need-row-of-requires
+row-of-requires c κs = search needs
 
 add-result : tie.Need-add-result
-add-result c = search needs
-
-mul-result-2 : tie.Need-mul-result-2
-mul-result-2 c = omega (arith, square-few (c .args .d) (c .args .n) (c .fits .d .fits) (c .fits .n .fits))
-
-add-result-2 : tie.Need-add-result-2
-add-result-2 c = omega (arith, square-few (c .args .d) (c .args .n) (c .fits .d .fits) (c .fits .n .fits))
-
-mul-result-3 : tie.Need-mul-result-3
-mul-result-3 c = omega (arith, square-few (c .args .d) (c .args .p) (c .fits .d .fits) (c .fits .p .fits))
-
-add-result-3 : tie.Need-add-result-3
-add-result-3 c = omega (arith, square-few (c .args .d) (c .args .p) (c .fits .d .fits) (c .fits .p .fits))
-
-add-result-4 : tie.Need-add-result-4
-add-result-4 c = omega (arith, square-few (c .args .d) (c .args .n) (c .fits .d .fits) (c .fits .n .fits), square-few (c .args .d) (c .args .p) (c .fits .d .fits) (c .fits .p .fits))
+add-result c =
+    let fit = c .before .before .fits in
+    omega (
+      arith,
+      c .before .from-at .ensures,
+      from-few {f = 0} (fit .room .fits) (fit .d .fits) (fit .room .fits) (omega arith),
+      c .row-of .ensures,
+      row-few (fit .d .fits) (fit .p .fits) (fit .f .fits),
+    )
 
 returns : tie.Need-returns
 unfolding toAt
-returns c = refl
+returns c = rw (c .before .from-at .ensures, c .row-of .ensures)
 
 pub to-at-spec : {M : Type 1} → statement M
-to-at-spec = tie.close (tie.spec mul-result add-result mul-result-2 add-result-2 mul-result-3 add-result-3 add-result-4 returns)
+to-at-spec = tie.close (tie.spec from-at-requires row-of-requires add-result returns)

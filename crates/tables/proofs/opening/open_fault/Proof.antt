@@ -52,7 +52,7 @@ returns-2 c =
     (open-by-length (listed (a .shape) (a .list .now)) _ (t .before .before .shape-fault .ensures) (t .if1 .left) _ (n .rules-in .ensures) (a .table .now) _ (long .table-length .ensures) (c .before .if2 .taken))
 
 opens-requires : tie.Need-opens-requires
-opens-requires c κs = record { long = c .if2 .left ∙ c .before .table-length .ensures }
+opens-requires c κs = search needs
 
 refuse-requires-2 : tie.Need-refuse-requires-2
 refuse-requires-2 c κs = search needs
