@@ -1,10 +1,12 @@
 // Layer 2: lists of rules, headers, and the first match.
 //
 // Renders 01's sections 'Lists and headers', 'Refusal numbers' and, of 'Other answers', check, plain scan and
-// order independence. The crates of sorting, lookup and the programs may cite it; it cites `ranges` alone.
+// order independence. Every crate above may cite it; it cites `ranges` alone.
 //
 // The list. A list is a lent run of numbers, 2d a rule: low and high of field 0, then of field 1, and so on.
-// `offset_of` alone knows where a rule's low stands; its high stands one further.
+// `offset_of` alone knows where a rule's low stands; its high stands one further. `shape_of` makes the shape that gives the
+// numbers their meaning, and how many fields, rules and numbers a list may have is said beside it. `in_list` says which
+// rules a list has.
 //
 // What it answers. `check_list` says how many rules a list has. `plain_scan` gives the first rule that fits a header,
 // and `rule_fits` says whether one rule does. `independence` says whether some header fits two rules, and which two

@@ -1,7 +1,7 @@
 // Layer 4: a header looked up in a sorted table.
 //
 // Renders 01's section 'The walk' and, of 'Refusal numbers', what is said of a lookup. The programs may cite it; it cites
-// `ranges`, `lists`, `tables` and, of `sorting`, what a table promises (`specs/Promise.antt`), and nothing of how a table is
+// `ranges`, `lists`, `ordering`, `tables` and, of `sorting`, what a table promises (`specs/Promise.antt`), and nothing of how a table is
 // made; only the statements on built tables cite what `sorting` proves of them.
 //
 // What it answers. `lookup` gives the smallest rule number that fits a header, or none, with the number of range tests

@@ -1,11 +1,15 @@
-// Layer 1: refusals, the single range test, and prefixes as ranges and back.
+// Layer 1: refusals, ranges, the single range test, how two ranges stand, and prefixes as ranges and back.
 //
-// Renders 01's sections 'Lists and headers' (the range test), 'Refusal numbers' and, of 'Other answers', what is
-// said of prefixes. Every crate above may cite it; it cites none of ours.
+// Renders 01's sections 'Lists and headers' (the range test), 'Order and partitions' (on one field), 'Refusal numbers'
+// and, of 'Other answers', what is said of prefixes. Every crate above may cite it; it cites none of ours.
 //
-// What it answers. `side_of` says on which side of a range a number lies. `prefix_to_range` turns a prefix into
-// its range. `range_to_prefixes` turns a range into prefixes: from the low end, always the largest aligned block
-// that stays in the range.
+// The range. A range is its low and the first number past it (`Range`); `closed` makes one of low and high, and nothing
+// else knows how a range ends.
+//
+// What it answers. `side_of` says on which side of a range a number lies, `is_void` whether a range holds none, `meets`
+// whether two share one, and `standing_of` which of two is under the other. `prefix_to_range` turns a prefix into its
+// range. `range_to_prefixes` turns a range into prefixes: from the low end, always the largest aligned block that stays
+// in the range.
 pub mod expand;
 pub mod prefix;
 pub mod refusal;

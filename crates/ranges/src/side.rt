@@ -1,4 +1,4 @@
-// The single range test.
+// A range, and the tests of it: the single range test, whether it holds a number, whether two share one.
 ghost use mathlib.Core.Path.{_≡_};
 ghost use Rattle.ranges.specs.Sides.{closedAt, sideOf, voidOf, meetOf};
 

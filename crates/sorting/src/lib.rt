@@ -1,7 +1,7 @@
 // Layer 3: rules sorted into partitions, and the working table.
 //
 // Renders 01's sections 'Order and partitions' (first fit), 'The working table' and, of 'Refusal numbers' and 'Other
-// answers', what is said of a build, an audit and a report. The crates of the lookup and the programs may cite it; it
+// answers', what is said of a build and an audit. The crates of the lookup and the programs may cite it; it
 // cites `ranges`, `lists`, for the order of rules `ordering` and for where a table's numbers stand `tables`. What a lookup
 // may rely on is `specs/Promise.antt` alone.
 //
