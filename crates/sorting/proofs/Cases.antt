@@ -8,7 +8,7 @@ use mathlib.Core.List.{List, [], _∷_, _++_}
 use mathlib.Core.Path.{_≡_, refl, ap, _∙_, subst}
 use Rattle.ranges.specs.Numbers.{all, count, least, greatest, tab}
 use Rattle.ranges.specs.Sides.{endOf}
-use Rattle.lists.specs.Rules.{Rules, listed, rulesIn, offsetOf, lowOf, highOf, endsAt}
+use Rattle.lists.specs.Rules.{Rules, shapeOf, listed, rulesIn, offsetOf, lowOf, highOf, endsAt}
 use Rattle.lists.specs.Faults.{shapeFault, badRule, endsFault, listFault}
 use Rattle.ranges.specs.Standings.{standingOf}
 use Rattle.ordering.specs.Order.{compare}
@@ -21,7 +21,7 @@ use Rattle.sorting.proofs.Sorted.Built.{list-keeps-promise}
 -- d = 2 (model, serial), n = 5
 abbrev pub bench : Rules
 bench =
-    listed (record { d = 2 })
+    listed (shapeOf 2)
     (7 ∷ 7 ∷ 100 ∷ 100 ∷ 7 ∷ 7 ∷ 200 ∷ 299 ∷ 8 ∷ 8 ∷ 0 ∷ 999 ∷ 7 ∷ 7 ∷ 0 ∷ 999 ∷ 0 ∷ 9 ∷ 0 ∷ 999 ∷ [])
 
 -- its whole table, 34 numbers, with a line where the paper has a bar
@@ -35,7 +35,7 @@ benchTable =
 
 -- n = 0, d = 1, and its table
 abbrev pub empty : Rules
-empty = listed (record { d = 1 }) []
+empty = listed (shapeOf 1) []
 
 abbrev pub emptyTable : List ℕ
 emptyTable = 0 ∷ 1 ∷ 0 ∷ 0 ∷ []

@@ -43,8 +43,3 @@ pub record SortedFor (R : Rules) (run order T : List ℕ) : Type 0 where
 pub record Laying (R : Rules) (run : List ℕ) (T : List ℕ) : Type 0 where
   pub dealt : Dealt R run
   pub sized : TableFor (rulesIn R) (fieldsOf R) T
-
--- a list that meets none of 1 to 4, and a table of the right length
-pub record Buildable (R : Rules) (T : List ℕ) : Type 0 where
-  pub no-fault : listFault R .number ≡ 0
-  pub sized : TableFor (rulesIn R) (fieldsOf R) T

@@ -8,9 +8,10 @@ use Rattle.ranges.specs.Numbers.{pick, sameList}
 use Rattle.ranges.specs.Refusals.{none, orElse, stands, countUnless, Said, saidOf}
 use Rattle.ranges.specs.declared.refusal.Refusal.{Refusal}
 use Rattle.ranges.specs.declared.refusal.Count.{Count}
-use Rattle.lists.specs.Rules.{Rules, rulesIn}
+use Rattle.lists.specs.Rules.{Rules, fieldsOf, rulesIn}
 use Rattle.lists.specs.Faults.{listFault}
 use Rattle.sorting.specs.FirstFit.{firstFit, parts}
+use Rattle.tables.specs.Layout.{TableFor}
 use Rattle.tables.specs.Opening.{tableFault}
 use Rattle.sorting.specs.Table.{builtTable}
 use Rattle.sorting.specs.declared.audit.Verdict.{Verdict}
@@ -19,6 +20,11 @@ use Rattle.sorting.specs.declared.audit.Verdict.the-variants.{Yes, No, R
 -- 1, 2, 3, 4, 5 in this order
 unfoldable pub buildFault : Rules → List ℕ → Refusal
 buildFault R T = orElse (listFault R) (tableFault R T)
+
+-- a list that meets none of 1 to 4, and a table of the right length
+pub record Buildable (R : Rules) (T : List ℕ) : Type 0 where
+  pub no-fault : listFault R .number ≡ 0
+  pub sized : TableFor (rulesIn R) (fieldsOf R) T
 
 -- b, the number of partitions that first fit opens
 -- (3 of the bench list)

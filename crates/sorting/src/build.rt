@@ -13,8 +13,7 @@ use tables::layout::table_length;
 ghost use mathlib.Core.Path.{_≡_};
 ghost use Rattle.lists.specs.Rules.{listed};
 ghost use Rattle.sorting.specs.Table.{builtTable};
-ghost use Rattle.sorting.specs.Asked.{Buildable};
-ghost use Rattle.sorting.specs.Build.{buildFault, builtParts, Built};
+ghost use Rattle.sorting.specs.Build.{Buildable, buildFault, builtParts, Built};
 
 // Gives the first of the refusals 1, 2, 3, 4 and 5 that applies to a list and a table, or the one that refuses nothing.
 pub fn build_fault(shape: Shape, list: &[u32], table: &[u16]) -> Refusal

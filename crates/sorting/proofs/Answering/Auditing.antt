@@ -18,9 +18,8 @@ use Rattle.ranges.proofs.Numbers.{true-not-false, all-yes, all-at, same-list-re
 use Rattle.lists.specs.Rules.{Rules, fieldsOf, rulesIn}
 use Rattle.tables.proofs.Offsets.{most-table, table-few}
 use Rattle.sorting.specs.Table.{builtTable}
-use Rattle.sorting.specs.Asked.{Buildable}
 use Rattle.ranges.specs.Numbers.{all, sameList}
-use Rattle.sorting.specs.Build.{buildFault, auditOf}
+use Rattle.sorting.specs.Build.{Buildable, buildFault, auditOf}
 use Rattle.sorting.specs.declared.audit.Verdict.the-variants.{Yes, No}
 use Rattle.lists.proofs.Sound.{list-shaped}
 use Rattle.sorting.proofs.Sorted.Reading.{table-sized}

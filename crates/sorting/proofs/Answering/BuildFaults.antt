@@ -19,8 +19,7 @@ use Rattle.lists.specs.Rules.{Rules, fieldsOf, rulesIn, isVoid}
 use Rattle.lists.specs.Faults.{shapeFault, badRule, endsFault, listFault}
 use Rattle.lists.proofs.Faults.{shape-few}
 use Rattle.tables.specs.Layout.{tableLength}
-use Rattle.sorting.specs.Asked.{Buildable}
-use Rattle.sorting.specs.Build.{buildFault}
+use Rattle.sorting.specs.Build.{Buildable, buildFault}
 
 -- ---- 1 to 5
 module _ (R : Rules) (T : List ℕ) where

@@ -17,8 +17,8 @@ use Rattle.lists.specs.Rules.{Rules, rulesIn}
 use Rattle.lists.proofs.Sound.{list-shaped}
 use Rattle.sorting.specs.FirstFit.{firstFit, parts, Chosen}
 use Rattle.sorting.specs.Table.{tableOf, builtTable}
-use Rattle.sorting.specs.Asked.{Numbered, Laying, Buildable}
-use Rattle.sorting.specs.Build.{buildFault, builtParts, Built}
+use Rattle.sorting.specs.Asked.{Numbered, Laying}
+use Rattle.sorting.specs.Build.{Buildable, buildFault, builtParts, Built}
 use Rattle.sorting.proofs.Partitions.FirstFits.{first-fit-length, first-fit-choice}
 use Rattle.sorting.proofs.Answering.BuildFaults.{buildable}
 use Rattle.sorting.proofs.Writing.Room.{room-long, back-fits, back-long, back-is}
