@@ -87,9 +87,9 @@ module _ (R : Rules) (v : View) (h : List ℕ) (n q : ℕ) (is-n : n ≡ rulesIn
     stands-so : partStands (rulesIn R) (v .start) q ≡ true
     stands-so = rw is-n at (sym is-t ∙ e)
 
-    -- the group that the walk begins with
-    pub by-going : {d s e : ℕ} → n ≤ mostRules → d ≤ mostFields → s ≡ v .start q → e ≡ v .start (suc q) → Going n d s e 0 0
-    by-going {d} {s} {e} few-rules few-fields is-s is-e =
+    -- the group that the walk begins with, with few tests made
+    pub by-going : {d s e t : ℕ} → t ≤ 18 → n ≤ mostRules → d ≤ mostFields → s ≡ v .start q → e ≡ v .start (suc q) → Going n d s e 0 t
+    by-going {d} {s} {e} {t} few few-rules few-fields is-s is-e =
         let spans = part-spans (rulesIn R) (v .start) q stands-so in
         record {
           in-table = omega (arith, spans .1, is-e, is-n);

@@ -39,7 +39,7 @@ walk-requires c κs =
     let a = st .args in (
       st .pre,
       by-going (listed (a .shape) (a .t3 .now)) (view (a .n) (a .shape .d) (a .t4 .now)) (a .header .now) (a .n) (a .q) (st .pre .rules)
-          (told .part-stands .ensures) (not-false _ (starts .before .if1 .left)) (omega (arith, st .pre .rules, few-rules (st .pre))) (few-fields (st .pre))
+          (told .part-stands .ensures) (not-false _ (starts .before .if1 .left)) (omega arith) (omega (arith, st .pre .rules, few-rules (st .pre))) (few-fields (st .pre))
           (starts .start-of .ensures) (ends .end-of .ensures),
     )
 
