@@ -1,60 +1,114 @@
 -- Laws of the answer to a line (`specs/Answers.antt`), way by way.
---     unnamed, named-said                       whether a blank has ended the name
+--     unnamed                                   no blank has ended the name
 --     ill-read, crowded, lost-name, called      a line whose name has ended
+--     unnamed-put, named-bad, named-call        what is put, and what is left of the numbers
+--     answer-long                               of which there are as many
 --     call-over                                 more numbers than any call takes
 -- Assumes nothing.
 use Prim.Native.Nat.{ℕ, _≤_, _<_}
 use mathlib.Core.Bool.{Bool, true, false}
-use mathlib.Core.List.{List}
-use mathlib.Core.Path.{_≡_, refl}
+use mathlib.Core.List.{List, _++_}
+use mathlib.Core.Path.{_≡_, refl, ap, _∙_}
 use native.Mathlib.Omega.{arith}
-use borrow.Author.Tests.{lt-ltb, le-ltb, ltb-true, ltb-false}
-use lib.Dec.{ltb}
-use lib.ListN.{length, getD, take}
-use Rattle.text.specs.Rows.{rowNext, keptAt}
+use borrow.Author.Tests.{le-leb, lt-leb}
+use lib.ListN.{length, take, drop, length-append, length-take, length-drop}
+use Rattle.ranges.specs.Numbers.{pick}
+use Rattle.text.specs.Rows.{good, rowNext, keptAt}
 use Rattle.text.specs.declared.row.Row.{Row}
-use Rattle.calls.specs.Limits.{runMost, lineRoom}
+use Rattle.text.proofs.Rows.{kept-long}
+use Rattle.words.specs.Limits.{lineRoom}
+use Rattle.words.specs.Few.{PutFew}
+use Rattle.words.specs.Words.{badSaid, following}
+use Rattle.words.specs.declared.table_words.TableWord.{TableWord}
+use Rattle.words.specs.declared.table_words.TableWord.the-variants.{Build, Lookup, Audit, Report}
+use Rattle.words.proofs.Parts.{list-over, tables-over}
+use Rattle.words.proofs.Words.{p2r-bad, r2p-over, left-long}
 use Rattle.calls.specs.declared.line.Line.{Line}
 use Rattle.calls.specs.declared.word.Word.{Word}
 use Rattle.calls.specs.declared.word.Word.the-variants.{Check, Scan, Independent, Table, P2r, R2p, Unknown}
-use Rattle.calls.specs.declared.word.TableWord.{TableWord}
-use Rattle.calls.specs.declared.word.TableWord.the-variants.{Build, Lookup, Audit, Report}
-use Rattle.calls.specs.Lines.{heard}
+use Rattle.calls.specs.Lines.{Heard, heard}
 use Rattle.calls.specs.Names.{wordOf}
-use Rattle.calls.specs.Words.{badSaid, following}
-use Rattle.calls.specs.Answers.{wordSaid, namedSaid, answerSaid}
-use Rattle.calls.proofs.Parts.{list-over, tables-over}
-use Rattle.calls.proofs.Words.{p2r-bad, r2p-long, r2p-cut}
+use Rattle.calls.specs.Answers.{wordSaid, wordLeft, isCall, namedLeft, answerSaid, answerLeft}
 
--- ---- whether a blank has ended the name
-module _ (line : Line) (name numbers : List ℕ) where
-  -- no blank: a name alone, or nothing
-  pub unnamed : line .named ≡ false → answerSaid (heard line name numbers) ≡ badSaid
-  unfolding answerSaid
-  unnamed e = rw e
-
-  -- with the last number ended
-  pub named-said : {row : Row} {run : List ℕ} → row ≡ rowNext (line .row) → run ≡ keptAt (line .row) 0 numbers → line .named ≡ true
-      → answerSaid (heard line name numbers) ≡ namedSaid (line .length) name row run
-  unfolding answerSaid
-  named-said is kept named = rw (named, ← is, ← kept)
+-- ---- a line that is no call, of which the answer is bad
+pub unnamed : (line : Line) (name numbers : List ℕ) → line .named ≡ false → answerSaid (heard line name numbers) ≡ badSaid
+unfolding answerSaid
+unnamed line name numbers e = rw e
 
 -- ---- a line whose name has ended
 module _ (k : ℕ) (name : List ℕ) (row : Row) (run : List ℕ) where
   -- a word that is no number
-  pub ill-read : row .good ≡ false → namedSaid k name row run ≡ badSaid
+  pub ill-read : good row ≡ false → isCall k name row run ≡ false
+  unfolding isCall
   ill-read bad = rw bad
 
   -- more numbers than there are places
-  pub crowded : row .good ≡ true → length run < row .cells → namedSaid k name row run ≡ badSaid
-  crowded good lt = rw (good, lt-ltb (length run) (row .cells) lt)
+  pub crowded : good row ≡ true → length run < row .cells → isCall k name row run ≡ false
+  unfolding isCall
+  crowded stands lt = rw (stands, lt-leb (row .cells) (length run) lt)
 
   -- never: the name stands where its bytes were put
-  pub lost-name : row .good ≡ true → row .cells ≤ length run → length name < k → namedSaid k name row run ≡ badSaid
-  lost-name good few lt = rw (good, le-ltb (length run) (row .cells) few, lt-ltb (length name) k lt)
+  pub lost-name : good row ≡ true → row .cells ≤ length run → length name < k → isCall k name row run ≡ false
+  unfolding isCall
+  lost-name stands few lt = rw (stands, le-leb (row .cells) (length run) few, lt-leb k (length name) lt)
 
-  pub called : row .good ≡ true → row .cells ≤ length run → k ≤ length name → namedSaid k name row run ≡ wordSaid (wordOf (take k name)) (take (row .cells) run)
-  called good few within = rw (good, le-ltb (length run) (row .cells) few, le-ltb (length name) k within)
+  pub called : good row ≡ true → row .cells ≤ length run → k ≤ length name → isCall k name row run ≡ true
+  unfolding isCall
+  called stands few within = rw (stands, le-leb (row .cells) (length run) few, le-leb k (length name) within)
+
+-- ---- what is put and left, way by way
+module _ (line : Line) (name numbers : List ℕ) {most : ℕ} {out : List ℕ} {at : ℕ} {after : List ℕ} {end : ℕ} where
+  -- no blank: a name alone, or nothing
+  pub unnamed-put : line .named ≡ false → PutFew most out at badSaid after end
+      → PutFew most out at (answerSaid (heard line name numbers)) after end × (numbers ≡ answerLeft (heard line name numbers))
+  unfolding answerSaid answerLeft
+  unnamed-put e put = (rw e put, rw e refl)
+
+  -- with the last number ended
+  module _ {row : Row} {run : List ℕ} (is : row ≡ rowNext (line .row)) (kept : run ≡ keptAt (line .row) 0 numbers) (named : line .named ≡ true) where
+    pub named-bad : isCall (line .length) name row run ≡ false → PutFew most out at badSaid after end
+        → PutFew most out at (answerSaid (heard line name numbers)) after end × (run ≡ answerLeft (heard line name numbers))
+    unfolding answerSaid answerLeft
+    named-bad bad put = (rw (named, ← is, ← kept, bad) put, rw (named, ← is, ← kept, bad) refl)
+
+    pub named-call : {word : Word} {left : List ℕ} → isCall (line .length) name row run ≡ true → word ≡ wordOf (take (line .length) name)
+        → PutFew most out at (wordSaid word (take (row .cells) run)) after end → left ≡ wordLeft word (take (row .cells) run)
+        → PutFew most out at (answerSaid (heard line name numbers)) after end × (left ++ drop (row .cells) run ≡ answerLeft (heard line name numbers))
+    unfolding answerSaid answerLeft
+    named-call stands asks put left-is = (rw (named, ← is, ← kept, stands, ← asks) put, rw (named, ← is, ← kept, stands, ← asks) (ap (λ l. l ++ drop (row .cells) run) left-is))
+
+-- ---- the run of the numbers keeps its length
+word-long : (word : Word) (ns : List ℕ) → length (wordLeft word ns) ≡ length ns
+word-long Check ns = refl
+word-long Scan ns = refl
+word-long Independent ns = refl
+word-long (Table word) ns = refl
+word-long P2r ns = refl
+word-long R2p ns = left-long ns
+word-long Unknown ns = refl
+
+named-long : (k : ℕ) (name : List ℕ) (row : Row) (run : List ℕ) → length (namedLeft k name row run) ≡ length run
+named-long k name row run = go (isCall k name row run)
+  where
+    front : List ℕ
+    front = wordLeft (wordOf (take k name)) (take (row .cells) run)
+
+    go : (t : Bool) → length (pick t (front ++ drop (row .cells) run) run) ≡ length run
+    go true =
+        let same = word-long (wordOf (take k name)) (take (row .cells) run) in
+        omega (arith, length-append front (drop (row .cells) run), same, length-take (row .cells) run, length-drop (row .cells) run)
+    go false = refl
+
+pub answer-long : (s : Heard) → length (answerLeft s) ≡ length (s .numbers)
+unfolding answerLeft
+answer-long s = go (s .line .named)
+  where
+    run : List ℕ
+    run = keptAt (s .line .row) 0 (s .numbers)
+
+    go : (t : Bool) → length (pick t (namedLeft (s .line .length) (s .name) (rowNext (s .line .row)) run) (s .numbers)) ≡ length (s .numbers)
+    go true = named-long (s .line .length) (s .name) (rowNext (s .line .row)) run ∙ kept-long (s .line .row) 0 (s .numbers)
+    go false = refl
 
 -- ---- more numbers than any call takes
 following-few : (word : TableWord) → following word ≤ 8
@@ -69,12 +123,5 @@ call-over Scan ns over = rw (list-over ns 8 (omega arith))
 call-over Independent ns over = rw (list-over ns 0 (omega arith))
 call-over (Table word) ns over = let few = following-few word in rw (tables-over ns (following word) (omega arith))
 call-over P2r ns over = p2r-bad ns (λ e. omega arith)
-call-over R2p ns over = go (ltb runMost (getD ns 3 0)) refl
-  where
-    enough : 4 ≤ length ns
-    enough = omega arith
-
-    go : (t : Bool) → ltb runMost (getD ns 3 0) ≡ t → wordSaid R2p ns ≡ badSaid
-    go true e = r2p-long ns enough (ltb-true runMost (getD ns 3 0) e)
-    go false e = let few = ltb-false runMost (getD ns 3 0) e in r2p-cut ns enough few (λ same. omega arith)
+call-over R2p ns over = rw (r2p-over ns (omega arith))
 call-over Unknown ns over = refl

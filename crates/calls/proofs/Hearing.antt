@@ -4,6 +4,7 @@
 -- numbers that have no place in theirs are too many.
 --     name-heard          the answer to a line by its words, the first going on in the name's run
 --     words-answered      which is the answer to its words, in runs as the program has them
+--     line-is             both together
 -- Assumes nothing.
 use Prim.Native.Nat.{ℕ, suc, _+_, _≤_, _<_}
 use mathlib.Core.Bool.{Bool, true, false}
@@ -21,12 +22,12 @@ use Rattle.text.specs.Rows.{fresh, inFront, cellsIn, allNumbers, valuesOf, many
 use Rattle.text.proofs.Puts.{put-then}
 use Rattle.text.proofs.Rows.{row-is}
 use Rattle.text.proofs.Counted.{cells-good, cells-count, cells-run, cells-long, many-few, many-large, values-length}
-use Rattle.calls.specs.Limits.{lineRoom, nameRoom}
-use Rattle.calls.specs.Lines.{Heard, heard, lineOf, numberEnds, numberTakes, nameEnds, nameTakes, heardByte}
+use Rattle.words.specs.Limits.{lineRoom, nameRoom}
+use Rattle.calls.specs.Lines.{Heard, heard, unheard, lineOf, numberEnds, numberTakes, nameEnds, nameTakes, heardByte}
 use Rattle.calls.specs.Names.{wordOf}
-use Rattle.calls.specs.Words.{badSaid}
-use Rattle.calls.specs.Answers.{wordSaid, wordsSaid, namedSaid, answerSaid}
-use Rattle.calls.proofs.Longest.{table-most}
+use Rattle.words.specs.Words.{badSaid}
+use Rattle.calls.specs.Answers.{wordSaid, wordsSaid, answerTo, namedSaid, answerSaid}
+use Rattle.words.proofs.Longest.{table-most}
 use Rattle.calls.proofs.Names.{name-over}
 use Rattle.calls.proofs.Answers.{unnamed, ill-read, crowded, called, call-over}
 
@@ -93,7 +94,7 @@ name-taken k b name numbers (w ∷ c ∷ cs) =
     ap (λ j. cellsSaid j (sets (set name k b) (placeAfter (length name) k 1) w) (readCells 0 (begin numbers) (c ∷ cs))) (put .place)
     ∙ ap (λ n. cellsSaid (placeAfter (length name) k (suc (length w))) n (readCells 0 (begin numbers) (c ∷ cs))) (put .bytes)
 
-pub name-heard : (l : List ℕ) (k : ℕ) (name numbers : List ℕ)
+name-heard : (l : List ℕ) (k : ℕ) (name numbers : List ℕ)
     → answerSaid (fed heardByte (heard (lineOf false k fresh) name numbers) l) ≡ wordsOn k name numbers (cellsIn 32 l)
 unfolding heardByte
 name-heard [] k name numbers = unnamed (lineOf false k fresh) name numbers refl
@@ -166,28 +167,33 @@ module _ (name numbers : List ℕ) (long : length name ≡ nameRoom) (many : len
 
       go : (s t : Bool) → allNumbers cs ≡ s → leb (length cs) lineRoom ≡ t
           → cellsSaid k (sets name 0 w) (come cs) ≡ pick s (wordSaid (wordOf w) (valuesOf cs)) badSaid
-      go false t p q = ill-read k (sets name 0 w) (come cs .row) (come cs .run) (cells-good 0 (begin numbers) cs ∙ p)
+      go false t p q = rw (ill-read k (sets name 0 w) (come cs .row) (come cs .run) (cells-good 0 numbers cs ∙ p))
       go true false p q =
           let over = leb-false (length cs) lineRoom q in
-          let good = cells-good 0 (begin numbers) cs ∙ p in
+          let good = cells-good 0 numbers cs ∙ p in
           let past : length (come cs .run) < come cs .row .cells = omega (arith, come-long cs, come-over cs over) in
           let past' : lineRoom < length (valuesOf cs) = omega (arith, values-length cs) in
-          crowded k (sets name 0 w) (come cs .row) (come cs .run) good past ∙ sym (call-over (wordOf w) (valuesOf cs) past')
+          rw (crowded k (sets name 0 w) (come cs .row) (come cs .run) good past) (sym (call-over (wordOf w) (valuesOf cs) past'))
       go true true p q =
           let few = leb-true (length cs) lineRoom q in
-          let good = cells-good 0 (begin numbers) cs ∙ p in
+          let good = cells-good 0 numbers cs ∙ p in
           let count = come-few cs few in
           let fits : come cs .row .cells ≤ length (come cs .run) = omega (arith, come-long cs) in
           let within : k ≤ length (sets name 0 w) = omega (arith, length-sets name 0 w) in
           let run : come cs .run ≡ sets numbers 0 (valuesOf cs) = cells-run cs 0 (begin numbers) p (omega (arith, table-most)) in
           let front : take (length cs) (sets numbers 0 (valuesOf cs)) ≡ valuesOf cs = front-put numbers (valuesOf cs) (length cs) (values-length cs) (omega arith) in
-          called k (sets name 0 w) (come cs .row) (come cs .run) good fits within
-          ∙ ap (λ v. wordSaid v (take (come cs .row .cells) (come cs .run))) (name-asks w)
+          rw (called k (sets name 0 w) (come cs .row) (come cs .run) good fits within)
+          (ap (λ v. wordSaid v (take (come cs .row .cells) (come cs .run))) (name-asks w)
           ∙ ap (λ j. wordSaid (wordOf w) (take j (come cs .run))) count
           ∙ ap (λ r. wordSaid (wordOf w) (take (length cs) r)) run
-          ∙ ap (wordSaid (wordOf w)) front
+          ∙ ap (wordSaid (wordOf w)) front)
 
-  pub words-answered : (ws : List (List ℕ)) → wordsOn 0 name numbers ws ≡ wordsSaid ws
+  words-answered : (ws : List (List ℕ)) → wordsOn 0 name numbers ws ≡ wordsSaid ws
   words-answered [] = refl
   words-answered (w ∷ []) = refl
   words-answered (w ∷ c ∷ cs) = cells-answered w (c ∷ cs)
+
+-- whatever the runs for its name and its numbers hold at first
+pub line-is : (name numbers : List ℕ) → length name ≡ nameRoom → length numbers ≡ lineRoom → (line : List ℕ)
+    → answerSaid (fed heardByte (heard unheard name numbers) line) ≡ answerTo line
+line-is name numbers long many line = name-heard line 0 name numbers ∙ words-answered name numbers long many (cellsIn 32 line)

@@ -1,8 +1,7 @@
--- Laws of what has come of a line (`Hears` of `specs/Replies.antt`).
---     hears-name, hears-numbers        the runs are as long as the program's
---     hears-anew, hears-more           a new line; bytes more
---     hears-said                       the answer to it
---     begun-some                       a line of which bytes have come has begun
+-- What has come of a line, as bytes: a line that has been heard (`specs/Lines.antt`) is answered as those bytes are.
+--     hears-first, hears-more, hears-anew        a first line; one byte more; the line after
+--     hears-said                                 the answer to it
+--     begun-some                                 a line of which bytes have come has begun
 -- Assumes nothing.
 use Prim.Native.Nat.{ℕ, _<_}
 use mathlib.Core.Bool.{Bool, true, false}
@@ -17,11 +16,12 @@ use Rattle.text.specs.Cells.{fed}
 use Rattle.text.specs.Puts.{placeAfter}
 use Rattle.text.proofs.Feeding.{fed-append}
 use Rattle.text.proofs.Rows.{kept-long}
-use Rattle.calls.specs.Limits.{lineRoom, nameRoom}
+use Rattle.words.specs.Limits.{lineRoom, nameRoom}
 use Rattle.calls.specs.Lines.{Heard, heard, unheard, numberEnds, numberTakes, nameEnds, nameTakes, heardByte}
-use Rattle.calls.specs.Answers.{answerTo, answerSaid}
-use Rattle.calls.specs.Replies.{Hears, begunLine}
-use Rattle.calls.proofs.Theorems.{line-is}
+use Rattle.calls.specs.Answers.{answerTo, answerSaid, answerLeft}
+use Rattle.calls.specs.Replies.{lineAnew, begunLine}
+use Rattle.calls.proofs.Answers.{answer-long}
+use Rattle.calls.proofs.Hearing.{line-is}
 
 -- ---- the runs' lengths
 -- a byte keeps the runs' lengths
@@ -47,34 +47,41 @@ bytes-kept (b ∷ l) s =
     record { name = rest .name ∙ first .name; numbers = rest .numbers ∙ first .numbers }
 
 -- ---- what has come of a line
+-- of the line s these bytes have come, into runs as long as the program's, whatever those held before
+pub record Hears (s : Heard) (soFar : List ℕ) : Type 0 where
+  pub name : List ℕ
+  pub numbers : List ℕ
+  pub name-long : length name ≡ nameRoom
+  pub numbers-long : length numbers ≡ lineRoom
+  pub is : s ≡ fed heardByte (heard unheard name numbers) soFar
+
+-- nothing has come of a new one
+pub hears-first : (name numbers : List ℕ) → length name ≡ nameRoom → length numbers ≡ lineRoom → Hears (heard unheard name numbers) []
+hears-first name numbers long many = record { name = name; numbers = numbers; name-long = long; numbers-long = many; is = refl }
+
 module _ {s : Heard} {soFar : List ℕ} (h : Hears s soFar) where
-  pub hears-name : length (s .name) ≡ nameRoom
-  hears-name = ap (λ t. length (t .name)) (h .is) ∙ bytes-kept soFar (heard unheard (h .name) (h .numbers)) .name ∙ h .name-long
-
-  pub hears-numbers : length (s .numbers) ≡ lineRoom
-  hears-numbers = ap (λ t. length (t .numbers)) (h .is) ∙ bytes-kept soFar (heard unheard (h .name) (h .numbers)) .numbers ∙ h .numbers-long
-
-  pub hears-more : (l : List ℕ) {t : Heard} → t ≡ fed heardByte s l → Hears t (soFar ++ l)
-  hears-more l is =
+  -- one byte more
+  pub hears-more : (b : ℕ) → Hears (heardByte s b) (soFar ++ (b ∷ []))
+  hears-more b =
       record {
         name = h .name;
         numbers = h .numbers;
         name-long = h .name-long;
         numbers-long = h .numbers-long;
-        is =
-            is
-            ∙ ap (λ t. fed heardByte t l) (h .is)
-            ∙ sym (fed-append heardByte (heard unheard (h .name) (h .numbers)) soFar l);
+        is = ap (λ t. heardByte t b) (h .is) ∙ sym (fed-append heardByte (heard unheard (h .name) (h .numbers)) soFar (b ∷ []));
       }
 
   -- what is answered to a line as it has been heard
   pub hears-said : answerSaid s ≡ answerTo soFar
   hears-said = ap answerSaid (h .is) ∙ line-is (h .name) (h .numbers) (h .name-long) (h .numbers-long) soFar
 
--- nothing has come of a new one
-pub hears-anew : {t : Heard} → length (t .name) ≡ nameRoom → length (t .numbers) ≡ lineRoom → t .line ≡ unheard → Hears t []
-hears-anew {t} long many anew =
-    record { name = t .name; numbers = t .numbers; name-long = long; numbers-long = many; is = ap (λ line. heard line (t .name) (t .numbers)) anew }
+  -- the line after it
+  pub hears-anew : Hears (lineAnew s) []
+  hears-anew =
+      let kept = bytes-kept soFar (heard unheard (h .name) (h .numbers)) in
+      hears-first (s .name) (answerLeft s)
+      (ap (λ t. length (t .name)) (h .is) ∙ kept .name ∙ h .name-long)
+      (answer-long s ∙ ap (λ t. length (t .numbers)) (h .is) ∙ kept .numbers ∙ h .numbers-long)
 
 -- ---- whether it has begun
 -- what has begun stays so

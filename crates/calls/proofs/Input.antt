@@ -1,102 +1,46 @@
--- Input that comes in pieces is answered as a whole (`specs/Input.antt`), wherever the pieces are cut.
---     said-append, left-append      bytes after bytes
---     no-end, an-end                bytes without LF; bytes to the first LF
---     pieces-whole                  pieces are as all bytes in one
---     lines-on, lines-anew          and those are answered line by line
+-- Input that comes in pieces is answered line by line (`specs/Input.antt`), wherever the pieces are cut.
+--     pieces-whole          pieces are as all bytes in one
+--     lines-on              and those are answered line by line, the first line going on from what has come of it
+--     lines-anew            where nothing has come, it is as any other
 -- Assumes nothing.
-use Prim.Native.Nat.{ℕ, suc, _+_, _<_}
+use Prim.Native.Nat.{ℕ}
 use mathlib.Core.Bool.{Bool, true, false}
 use mathlib.Core.List.{List, [], _∷_, _++_, flatten, append-assoc, append-nil}
 use mathlib.Core.Path.{_≡_, refl, sym, ap, _∙_}
-use native.Mathlib.Omega.{arith}
 use lib.Dec.{eqb}
-use lib.ListN.{length, take}
 use Rattle.ranges.specs.Numbers.{pick}
+use Rattle.text.specs.Cells.{fed}
 use Rattle.text.specs.Rows.{inFront}
-use Rattle.calls.specs.Lines.{lineIn}
-use Rattle.calls.specs.Input.{inputLines, answerLine, answersTo, saidFrom, leftFrom, lastSaid, piecesSaid}
-use Rattle.calls.proofs.Lines.{line-here, line-past}
-
--- ---- bytes after bytes
-pub said-append : (soFar xs ys : List ℕ) → saidFrom soFar (xs ++ ys) ≡ saidFrom soFar xs ++ saidFrom (leftFrom soFar xs) ys
-said-append soFar [] ys = refl
-said-append soFar (x ∷ xs) ys = go (eqb x 10) (said-append [] xs ys) (said-append (soFar ++ (x ∷ [])) xs ys)
-  where
-    go : (t : Bool)
-        → saidFrom [] (xs ++ ys) ≡ saidFrom [] xs ++ saidFrom (leftFrom [] xs) ys
-        → saidFrom (soFar ++ (x ∷ [])) (xs ++ ys) ≡ saidFrom (soFar ++ (x ∷ [])) xs ++ saidFrom (leftFrom (soFar ++ (x ∷ [])) xs) ys
-        → pick t (answerLine soFar ++ saidFrom [] (xs ++ ys)) (saidFrom (soFar ++ (x ∷ [])) (xs ++ ys))
-        ≡ pick t (answerLine soFar ++ saidFrom [] xs) (saidFrom (soFar ++ (x ∷ [])) xs) ++ saidFrom (pick t (leftFrom [] xs) (leftFrom (soFar ++ (x ∷ [])) xs)) ys
-    go true anew on = ap (λ w. answerLine soFar ++ w) anew ∙ sym (append-assoc (answerLine soFar) (saidFrom [] xs) (saidFrom (leftFrom [] xs) ys))
-    go false anew on = on
-
-pub left-append : (soFar xs ys : List ℕ) → leftFrom soFar (xs ++ ys) ≡ leftFrom (leftFrom soFar xs) ys
-left-append soFar [] ys = refl
-left-append soFar (x ∷ xs) ys = go (eqb x 10) (left-append [] xs ys) (left-append (soFar ++ (x ∷ [])) xs ys)
-  where
-    go : (t : Bool) → leftFrom [] (xs ++ ys) ≡ leftFrom (leftFrom [] xs) ys → leftFrom (soFar ++ (x ∷ [])) (xs ++ ys) ≡ leftFrom (leftFrom (soFar ++ (x ∷ [])) xs) ys
-        → pick t (leftFrom [] (xs ++ ys)) (leftFrom (soFar ++ (x ∷ [])) (xs ++ ys)) ≡ leftFrom (pick t (leftFrom [] xs) (leftFrom (soFar ++ (x ∷ [])) xs)) ys
-    go true anew on = anew
-    go false anew on = on
-
--- ---- bytes up to a line's end
--- no LF among them
-pub record Unended (soFar bs : List ℕ) : Type 0 where
-  pub said : saidFrom soFar bs ≡ []
-  pub left : leftFrom soFar bs ≡ soFar ++ bs
-
-pub no-end : (bs soFar : List ℕ) → lineIn bs ≡ length bs → Unended soFar bs
-no-end [] soFar is = record { said = refl; left = sym (append-nil soFar) }
-no-end (b ∷ bs) soFar is = go (eqb b 10) refl (no-end bs (soFar ++ (b ∷ [])))
-  where
-    go : (t : Bool) → eqb b 10 ≡ t → (lineIn bs ≡ length bs → Unended (soFar ++ (b ∷ [])) bs) → Unended soFar (b ∷ bs)
-    go true e follow = let here = line-here b bs e in absurd (omega arith)
-    go false e follow =
-        let past = line-past b bs e in
-        let rest = follow (omega arith) in
-        record { said = rw e (rest .said); left = rw e (rest .left ∙ append-assoc soFar (b ∷ []) bs) }
-
--- k bytes and LF
-pub record Ended (soFar bs : List ℕ) (k : ℕ) : Type 0 where
-  pub said : saidFrom soFar (take (k + 1) bs) ≡ answerLine (soFar ++ take k bs)
-  pub left : leftFrom soFar (take (k + 1) bs) ≡ []
-
-ended-here : (b : ℕ) (bs soFar : List ℕ) → eqb b 10 ≡ true → Ended soFar (b ∷ bs) 0
-ended-here b bs soFar e =
-    record { said = rw e (append-nil (answerLine soFar) ∙ ap answerLine (sym (append-nil soFar))); left = rw e }
-
-ended-past : (b : ℕ) (bs soFar : List ℕ) (k : ℕ) → eqb b 10 ≡ false → Ended (soFar ++ (b ∷ [])) bs k → Ended soFar (b ∷ bs) (suc k)
-ended-past b bs soFar k e rest =
-    let one : suc k + 1 ≡ suc (k + 1) = omega arith in
-    record {
-      said = rw (one, e) (rest .said ∙ ap answerLine (append-assoc soFar (b ∷ []) (take k bs)));
-      left = rw (one, e) (rest .left);
-    }
-
-pub an-end : (bs soFar : List ℕ) → lineIn bs < length bs → Ended soFar bs (lineIn bs)
-an-end [] soFar lt = absurd (omega arith)
-an-end (b ∷ bs) soFar lt = go (eqb b 10) refl (an-end bs (soFar ++ (b ∷ [])))
-  where
-    go : (t : Bool) → eqb b 10 ≡ t → (lineIn bs < length bs → Ended (soFar ++ (b ∷ [])) bs (lineIn bs)) → Ended soFar (b ∷ bs) (lineIn (b ∷ bs))
-    go true e follow = rw (line-here b bs e) (ended-here b bs soFar e)
-    go false e follow =
-        let past = line-past b bs e in
-        rw past (ended-past b bs soFar (lineIn bs) e (follow (omega arith)))
+use Rattle.text.proofs.Feeding.{fed-append}
+use Rattle.calls.specs.Lines.{Heard, heardByte}
+use Rattle.calls.specs.Replies.{lineSaid, lineAnew, servedByte, saidByte, saidTo, begunLine, lastSaid}
+use Rattle.calls.specs.Input.{inputLines, answerLine, answersTo, piecesSaid}
+use Rattle.calls.proofs.Serving.{said-append, byte-ends, byte-stays}
+use Rattle.calls.proofs.Hears.{Hears, hears-more, hears-said, hears-anew, begun-some}
 
 -- ---- pieces
-pub pieces-whole : (ps : List (List ℕ)) (soFar : List ℕ) → piecesSaid soFar ps ≡ saidFrom soFar (flatten ps) ++ lastSaid (leftFrom soFar (flatten ps))
+-- what bytes say, and then the input's end
+abbrev pub wholeSaid : Heard → List ℕ → List ℕ
+wholeSaid s bs = saidTo s bs ++ lastSaid (fed servedByte s bs)
+
+pub pieces-whole : (ps : List (List ℕ)) (s : Heard) → piecesSaid s ps ≡ wholeSaid s (flatten ps)
 unfolding flatten
-pieces-whole [] soFar = refl
-pieces-whole (p ∷ ps) soFar =
-    ap (λ w. saidFrom soFar p ++ w) (pieces-whole ps (leftFrom soFar p))
-    ∙ sym (append-assoc (saidFrom soFar p) (saidFrom (leftFrom soFar p) (flatten ps)) (lastSaid (leftFrom (leftFrom soFar p) (flatten ps))))
-    ∙ ap (λ w. w ++ lastSaid (leftFrom (leftFrom soFar p) (flatten ps))) (sym (said-append soFar p (flatten ps)))
-    ∙ ap (λ l. saidFrom soFar (p ++ flatten ps) ++ lastSaid l) (sym (left-append soFar p (flatten ps)))
+pieces-whole [] s = refl
+pieces-whole (p ∷ ps) s =
+    let t = fed servedByte s p in
+    ap (λ w. saidTo s p ++ w) (pieces-whole ps t)
+    ∙ sym (append-assoc (saidTo s p) (saidTo t (flatten ps)) (lastSaid (fed servedByte t (flatten ps))))
+    ∙ ap (λ w. w ++ lastSaid (fed servedByte t (flatten ps))) (sym (said-append p (flatten ps) s))
+    ∙ ap (λ u. saidTo s (p ++ flatten ps) ++ lastSaid u) (sym (fed-append servedByte s p (flatten ps)))
 
 -- ---- line by line
--- the first line goes on from what has come of it
-abbrev linesOn : List ℕ → List (List ℕ) → List ℕ
-linesOn soFar [] = lastSaid soFar
+-- the answers, where these bytes have come of the first line
+abbrev lastOn : List ℕ → List ℕ
+lastOn [] = []
+lastOn (b ∷ bs) = answerLine (b ∷ bs)
+
+abbrev pub linesOn : List ℕ → List (List ℕ) → List ℕ
+linesOn soFar [] = lastOn soFar
 linesOn soFar (l ∷ ls) = answerLine (soFar ++ l) ++ answersTo ls
 
 pub lines-anew : (ls : List (List ℕ)) → linesOn [] ls ≡ answersTo ls
@@ -104,7 +48,7 @@ lines-anew [] = refl
 lines-anew (l ∷ ls) = refl
 
 -- something has come of the line
-last-line : (soFar : List ℕ) (b : ℕ) → lastSaid (soFar ++ (b ∷ [])) ≡ answerLine (soFar ++ (b ∷ []))
+last-line : (soFar : List ℕ) (b : ℕ) → lastOn (soFar ++ (b ∷ [])) ≡ answerLine (soFar ++ (b ∷ []))
 last-line [] b = refl
 last-line (x ∷ xs) b = refl
 
@@ -112,15 +56,33 @@ lines-byte : (soFar : List ℕ) (b : ℕ) (ls : List (List ℕ)) → linesOn (so
 lines-byte soFar b [] = last-line soFar b ∙ sym (append-nil (answerLine (soFar ++ (b ∷ []))))
 lines-byte soFar b (l ∷ ls) = ap (λ w. answerLine w ++ answersTo ls) (append-assoc soFar (b ∷ []) l)
 
-pub lines-on : (bs soFar : List ℕ) → saidFrom soFar bs ++ lastSaid (leftFrom soFar bs) ≡ linesOn soFar (inputLines bs)
-lines-on [] soFar = refl
-lines-on (b ∷ bs) soFar = go (eqb b 10) (lines-on bs)
+line-said : {s : Heard} {soFar : List ℕ} → Hears s soFar → lineSaid s ≡ answerLine soFar
+line-said h = ap (λ w. w ++ (10 ∷ [])) (hears-said h)
+
+last-said : {s : Heard} (soFar : List ℕ) → Hears s soFar → lastSaid s ≡ lastOn soFar
+last-said {s} [] h = let none : begunLine (s .line) ≡ false = ap (λ t. begunLine (t .line)) (h .is) in rw none
+last-said (b ∷ bs) h = rw (begun-some h) (line-said h)
+
+pub lines-on : (bs : List ℕ) (s : Heard) (soFar : List ℕ) → Hears s soFar → wholeSaid s bs ≡ linesOn soFar (inputLines bs)
+lines-on [] s soFar h = last-said soFar h
+lines-on (b ∷ bs) s soFar h = go (eqb b 10) refl (lines-on bs)
   where
-    go : (t : Bool) → ((s : List ℕ) → saidFrom s bs ++ lastSaid (leftFrom s bs) ≡ linesOn s (inputLines bs))
-        → pick t (answerLine soFar ++ saidFrom [] bs) (saidFrom (soFar ++ (b ∷ [])) bs) ++ lastSaid (pick t (leftFrom [] bs) (leftFrom (soFar ++ (b ∷ [])) bs))
-        ≡ linesOn soFar (pick t ([] ∷ inputLines bs) (inFront b (inputLines bs)))
-    go true follow =
-        append-assoc (answerLine soFar) (saidFrom [] bs) (lastSaid (leftFrom [] bs))
-        ∙ ap (λ w. answerLine soFar ++ w) (follow [] ∙ lines-anew (inputLines bs))
+    byte-whole : {w : List ℕ} {u : Heard} → saidByte s b ≡ w → servedByte s b ≡ u → wholeSaid s (b ∷ bs) ≡ (w ++ saidTo u bs) ++ lastSaid (fed servedByte u bs)
+    byte-whole {w} {u} said left =
+        ap (λ v. (v ++ saidTo (servedByte s b) bs) ++ lastSaid (fed servedByte (servedByte s b) bs)) said
+        ∙ ap (λ t. (w ++ saidTo t bs) ++ lastSaid (fed servedByte t bs)) left
+
+    go : (t : Bool) → eqb b 10 ≡ t → ((u : Heard) (l : List ℕ) → Hears u l → wholeSaid u bs ≡ linesOn l (inputLines bs))
+        → wholeSaid s (b ∷ bs) ≡ linesOn soFar (pick t ([] ∷ inputLines bs) (inFront b (inputLines bs)))
+    go true e follow =
+        let byte = byte-ends s b e in
+        byte-whole (byte .said) (byte .left)
+        ∙ append-assoc (lineSaid s) (saidTo (lineAnew s) bs) (lastSaid (fed servedByte (lineAnew s) bs))
+        ∙ ap (λ w. lineSaid s ++ w) (follow (lineAnew s) [] (hears-anew h) ∙ lines-anew (inputLines bs))
+        ∙ ap (λ w. w ++ answersTo (inputLines bs)) (line-said h)
         ∙ ap (λ w. answerLine w ++ answersTo (inputLines bs)) (sym (append-nil soFar))
-    go false follow = follow (soFar ++ (b ∷ [])) ∙ lines-byte soFar b (inputLines bs)
+    go false e follow =
+        let byte = byte-stays s b e in
+        byte-whole (byte .said) (byte .left)
+        ∙ follow (heardByte s b) (soFar ++ (b ∷ [])) (hears-more h b)
+        ∙ lines-byte soFar b (inputLines bs)

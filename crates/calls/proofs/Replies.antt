@@ -1,105 +1,32 @@
--- Laws of serving line by line, said of the input's bytes (`specs/Replies.antt`).
---     replied-none, replied-more           no bytes; one turn of the loop
+-- Laws of serving line by line (`specs/Replies.antt`).
 --     room-is, room-not                    whether there is room
---     room-left-first, room-left-more      at the loop's head there is
---     none-lost-more, replied-whole        an answer fits it, so nothing is left out and all that was said is there
+--     came-none, turn-most, came-more      the first bytes are served: none; one turn of the loop
+--     lines-full, lines-all                serving ends: there is no more room, or all bytes are served
+--     served-lines                         no more bytes are served than there are, and some
 --     last-none, last-some                 the input's end
 -- Assumes nothing.
 use Prim.Native.Nat.{ℕ, _+_, _-_, _≤_, _<_}
-use mathlib.Core.Bool.{Bool, true, false}
-use mathlib.Core.List.{List, [], _∷_, _++_}
+use mathlib.Core.Bool.{true, false}
+use mathlib.Core.List.{List, [], _++_}
 use mathlib.Core.Path.{_≡_, refl, sym, ap, _∙_}
 use native.Mathlib.Omega.{arith}
-use borrow.Author.Tests.{ltb-true, ltb-false, le-leb, lt-leb, leb-true}
-use lib.Dec.{ltb}
-use lib.ListN.{length, take, drop, length-append}
-use lib.Seq.{take-add, take-all}
-use Rattle.ranges.proofs.Numbers.{never}
+use borrow.Author.Tests.{le-leb, lt-leb, leb-true}
+use lib.ListN.{length, take, drop, length-append, length-drop}
+use lib.Seq.{take-add, drop-drop, drop-length}
+use Rattle.ranges.specs.Numbers.{pick}
 use Rattle.text.specs.Cells.{fed}
-use Rattle.text.proofs.Puts.{put-no-byte, put-then}
-use Rattle.calls.specs.Limits.{answerMost}
-use Rattle.calls.specs.Few.{PutFew}
-use Rattle.calls.specs.Lines.{Heard, heardByte, lineIn}
-use Rattle.calls.specs.Answers.{answerSaid}
-use Rattle.calls.specs.Input.{saidFrom, leftFrom, lastSaid}
-use Rattle.calls.specs.Serving.{saidIn, Served}
-use Rattle.calls.specs.Replies.{Hears, Replied, roomAt, begunLine, ServedLast}
-use Rattle.calls.proofs.Lent.{rest-lent}
-use Rattle.calls.proofs.Few.{all-put, all-few-put}
-use Rattle.calls.proofs.Lines.{line-within}
-use Rattle.calls.proofs.Input.{said-append, left-append, no-end, an-end}
-use Rattle.calls.proofs.Hears.{hears-name, hears-numbers, hears-more, hears-said, hears-anew, begun-some}
-
--- ---- bytes after bytes
-pub replied-none : {s : Heard} {out : List ℕ} {at : ℕ} → Replied s [] out at s out at
-replied-none = record { said = λ soFar h. put-no-byte; left = λ soFar h. h }
-
-replied-then : {s : Heard} {xs out : List ℕ} {at : ℕ} {t : Heard} {mid : List ℕ} {next : ℕ} {ys : List ℕ} {u : Heard} {after : List ℕ} {end : ℕ}
-    → Replied s xs out at t mid next → Replied t ys mid next u after end → Replied s (xs ++ ys) out at u after end
-replied-then {xs = xs} {ys = ys} first second =
-    record {
-      said = λ soFar h. rw (said-append soFar xs ys) (put-then (first .said soFar h) (second .said (leftFrom soFar xs) (first .left soFar h)));
-      left = λ soFar h. rw (left-append soFar xs ys) (second .left (leftFrom soFar xs) (first .left soFar h));
-    }
-
--- ---- up to a line's end
-module _ {s : Heard} {bytes out : List ℕ} {at : ℕ} {t : Heard} {next : ℕ} {after : List ℕ} {end : ℕ} (served : Served s bytes out at t next after end) where
-  -- a line ends in them
-  ended-said : ltb (lineIn bytes) (length bytes) ≡ true → (soFar : List ℕ) → Hears s soFar → saidFrom soFar (take next bytes) ≡ saidIn s bytes
-  ended-said e soFar h =
-      let lt = ltb-true (lineIn bytes) (length bytes) e in
-      let count : next ≡ lineIn bytes + 1 = rw e at (served .count) in
-      rw (count, e) (an-end bytes soFar lt .said ∙ ap (λ w. w ++ (10 ∷ [])) (sym (hears-said (hears-more h (take (lineIn bytes) bytes) refl))))
-
-  ended-left : ltb (lineIn bytes) (length bytes) ≡ true → (soFar : List ℕ) → Hears s soFar → Hears t (leftFrom soFar (take next bytes))
-  ended-left e soFar h =
-      let lt = ltb-true (lineIn bytes) (length bytes) e in
-      let count : next ≡ lineIn bytes + 1 = rw e at (served .count) in
-      rw (count, an-end bytes soFar lt .left)
-      (hears-anew (served .name-kept ∙ hears-name h) (served .numbers-kept ∙ hears-numbers h) (served .anew lt))
-
-  -- none does
-  within-is : ltb (lineIn bytes) (length bytes) ≡ false → lineIn bytes ≡ length bytes
-  within-is e = let over = ltb-false (lineIn bytes) (length bytes) e in omega (arith, line-within bytes)
-
-  within-all : ltb (lineIn bytes) (length bytes) ≡ false → take next bytes ≡ bytes
-  within-all e =
-      let count : next ≡ lineIn bytes = rw e at (served .count) in
-      let past : length bytes ≤ next = omega (arith, within-is e) in
-      take-all next bytes past
-
-  within-said : ltb (lineIn bytes) (length bytes) ≡ false → (soFar : List ℕ) → Hears s soFar → saidFrom soFar (take next bytes) ≡ saidIn s bytes
-  within-said e soFar h = rw (within-all e, e) (no-end bytes soFar (within-is e) .said)
-
-  within-left : ltb (lineIn bytes) (length bytes) ≡ false → (soFar : List ℕ) → Hears s soFar → Hears t (leftFrom soFar (take next bytes))
-  within-left e soFar h =
-      let whole : take (lineIn bytes) bytes ≡ bytes = take-all (lineIn bytes) bytes (ltb-false (lineIn bytes) (length bytes) e) in
-      rw (within-all e, no-end bytes soFar (within-is e) .left) (hears-more h bytes (served .within (within-is e) ∙ ap (fed heardByte s) whole))
-
-  served-said : (soFar : List ℕ) → Hears s soFar → saidFrom soFar (take next bytes) ≡ saidIn s bytes
-  served-said soFar h = go (ltb (lineIn bytes) (length bytes)) refl
-    where
-      go : (b : Bool) → ltb (lineIn bytes) (length bytes) ≡ b → saidFrom soFar (take next bytes) ≡ saidIn s bytes
-      go true e = ended-said e soFar h
-      go false e = within-said e soFar h
-
-  served-left : (soFar : List ℕ) → Hears s soFar → Hears t (leftFrom soFar (take next bytes))
-  served-left soFar h = go (ltb (lineIn bytes) (length bytes)) refl
-    where
-      go : (b : Bool) → ltb (lineIn bytes) (length bytes) ≡ b → Hears t (leftFrom soFar (take next bytes))
-      go true e = ended-left e soFar h
-      go false e = within-left e soFar h
-
-  served-replied : Replied s (take next bytes) out at t after end
-  served-replied = record { said = λ soFar h. rw (served-said soFar h) (served .said .puts); left = served-left }
-
--- one turn: what was served before, and then the rest up to a line's end
-pub replied-more : (bytes : List ℕ) (from : ℕ) {s : Heard} {out : List ℕ} {at : ℕ} {t : Heard} {mid : List ℕ} {next : ℕ} {u : Heard} {n : ℕ} {after : List ℕ} {end : ℕ}
-    → Replied s (take from bytes) out at t mid next → Served t (take (length bytes - from) (drop from bytes)) mid next u n after end
-    → Replied s (take (from + n) bytes) out at u after end
-replied-more bytes from {n = n} first served =
-    let rest = rw (rest-lent bytes from) at (served-replied served) in
-    rw (take-add from n bytes) (replied-then first rest)
+use Rattle.text.specs.Puts.{Put, placeAfter}
+use Rattle.text.proofs.Feeding.{fed-append}
+use Rattle.text.proofs.Puts.{put-no-byte, put-long, put-then}
+use Rattle.words.specs.Limits.{answerMost}
+use Rattle.words.specs.Few.{PutFew}
+use Rattle.words.proofs.Lent.{rest-lent}
+use Rattle.words.proofs.Few.{all-put, all-few-put}
+use Rattle.calls.specs.Lines.{Heard}
+use Rattle.calls.specs.Answers.{answerLeft}
+use Rattle.calls.specs.Replies.{lineSaid, servedByte, saidTo, roomAt, servedTo, ServedLines, begunLine, ServedLast}
+use Rattle.calls.specs.Serving.{Served}
+use Rattle.calls.proofs.Serving.{said-append, end-most, end-some, turnTo, served-turn, served-most, served-some}
 
 -- ---- room
 module _ (n at : ℕ) where
@@ -115,64 +42,138 @@ module _ (n at : ℕ) where
   unfolding roomAt
   room-told e = leb-true (at + answerMost) n e
 
--- nothing of what these bytes answer was left out before a place
-abbrev pub NoneLost : Heard → List ℕ → ℕ → Type 0
-NoneLost s bytes at = (soFar : List ℕ) → Hears s soFar → length (saidFrom soFar bytes) ≤ at
-
--- and there is room after it, in a run of n bytes
-pub record RoomLeft (s : Heard) (bytes : List ℕ) (n at : ℕ) : Type 0 where
-  pub none-lost : NoneLost s bytes at
+-- ---- the first bytes are served
+-- nothing of what is said was left out before a place, and there is room after it
+pub record RoomLeft (said : List ℕ) (n at : ℕ) : Type 0 where
+  pub none-lost : length said ≤ at
   pub room : at + answerMost ≤ n
 
-pub room-left-first : {s : Heard} {n : ℕ} → answerMost ≤ n → RoomLeft s [] n 0
-room-left-first enough = record { none-lost = λ soFar h. omega arith; room = omega arith }
+-- the first `next` bytes: as many at least are served in all
+pub record Came (s : Heard) (bytes out : List ℕ) (t : Heard) (next : ℕ) (after : List ℕ) (at : ℕ) : Type 0 where
+  pub few : next ≤ length bytes
+  pub left : t ≡ fed servedByte s (take next bytes)
+  pub said : Put out 0 (saidTo s (take next bytes)) after at
+  pub count : servedTo (length out) 0 s bytes ≡ next + servedTo (length out) at t (drop next bytes)
+  pub room : answerMost ≤ length out → RoomLeft (saidTo s (take next bytes)) (length out) at
 
--- one turn: what is said then
-turn-said : (bytes : List ℕ) (from : ℕ) {t : Heard} {mid : List ℕ} {next : ℕ} {u : Heard} {n : ℕ} {after : List ℕ} {end : ℕ}
-    → Served t (take (length bytes - from) (drop from bytes)) mid next u n after end → (soFar : List ℕ) → Hears t (leftFrom soFar (take from bytes))
-    → saidFrom soFar (take (from + n) bytes) ≡ saidFrom soFar (take from bytes) ++ saidIn t (take (length bytes - from) (drop from bytes))
-turn-said bytes from {n = n} served soFar left =
-    ap (saidFrom soFar) (take-add from n bytes)
-    ∙ said-append soFar (take from bytes) (take n (drop from bytes))
-    ∙ ap (λ r. saidFrom soFar (take from bytes) ++ saidFrom (leftFrom soFar (take from bytes)) (take n r)) (sym (rest-lent bytes from))
-    ∙ ap (λ w. saidFrom soFar (take from bytes) ++ w) (served-said served (leftFrom soFar (take from bytes)) left)
+pub came-none : {s : Heard} {bytes out : List ℕ} → Came s bytes out s 0 out 0
+came-none =
+    record {
+      few = omega arith;
+      left = refl;
+      said = put-no-byte;
+      count = omega arith;
+      room = λ enough. record { none-lost = omega arith; room = omega arith };
+    }
 
--- an answer fits the room
-pub none-lost-more : (bytes : List ℕ) (from : ℕ) {s : Heard} {out : List ℕ} {at : ℕ} {t : Heard} {mid : List ℕ} {next : ℕ} {u : Heard} {n : ℕ} {after : List ℕ} {end : ℕ}
-    → Replied s (take from bytes) out at t mid next → RoomLeft s (take from bytes) (length mid) next
-    → Served t (take (length bytes - from) (drop from bytes)) mid next u n after end → NoneLost s (take (from + n) bytes) end
-none-lost-more bytes from {t = t} first room-left served soFar h =
-    let rest : List ℕ = take (length bytes - from) (drop from bytes) in
-    let before = room-left .none-lost soFar h in
-    let room = room-left .room in
-    rw (turn-said bytes from served soFar (first .left soFar h), length-append (saidFrom soFar (take from bytes)) (saidIn t rest))
-    (omega (arith, served .said .few, served .said .puts .place))
+add-again : (a b c : ℕ) → a + (b + c) ≡ a + b + c
+add-again a b c = omega arith
 
-pub room-left-more : {s : Heard} {bytes : List ℕ} {n at : ℕ} → NoneLost s bytes at → roomAt n at ≡ true → RoomLeft s bytes n at
-room-left-more {n = n} {at = at} none-lost is = record { none-lost = none-lost; room = room-told n at is }
+-- one turn: what was served before, and then the rest up to a line's end
+module _ {s : Heard} {bytes out : List ℕ} {t : Heard} {from : ℕ} {mid : List ℕ} {at : ℕ} (came : Came s bytes out t from mid at)
+    {u : Heard} {n : ℕ} {after : List ℕ} {end : ℕ} (served : Served t (take (length bytes - from) (drop from bytes)) mid at u n after end) where
+  rest : Served t (drop from bytes) mid at u n after end
+  rest = rw (rest-lent bytes from) at served
 
--- all that was said is there
-pub replied-whole : {s : Heard} {bytes out : List ℕ} {t : Heard} {after : List ℕ} {end : ℕ} → Replied s bytes out 0 t after end → NoneLost s bytes end
-    → (soFar : List ℕ) → Hears s soFar → take end after ≡ saidFrom soFar bytes
-replied-whole replied none-lost soFar h = all-put (replied .said soFar h) (none-lost soFar h)
+  pub turn-most : from + n ≤ length bytes
+  turn-most = omega (arith, rest .count, end-most (drop from bytes), length-drop from bytes, came .few)
+
+  pub turn-some : from < length bytes → 0 < n
+  turn-some lt =
+      let some : 0 < length (drop from bytes) = omega (arith, length-drop from bytes) in
+      omega (arith, rest .count, end-some (drop from bytes) some)
+
+  turn-left : u ≡ fed servedByte s (take (from + n) bytes)
+  turn-left =
+      rest .left
+      ∙ ap (λ h. fed servedByte h (take n (drop from bytes))) (came .left)
+      ∙ sym (fed-append servedByte s (take from bytes) (take n (drop from bytes)))
+      ∙ ap (fed servedByte s) (sym (take-add from n bytes))
+
+  turn-is : saidTo s (take (from + n) bytes) ≡ saidTo s (take from bytes) ++ saidTo t (take n (drop from bytes))
+  turn-is =
+      ap (saidTo s) (take-add from n bytes)
+      ∙ said-append (take from bytes) (take n (drop from bytes)) s
+      ∙ ap (λ h. saidTo s (take from bytes) ++ saidTo h (take n (drop from bytes))) (sym (came .left))
+
+  turn-said : Put out 0 (saidTo s (take (from + n) bytes)) after end
+  turn-said = rw turn-is (put-then (came .said) (rest .said .puts))
+
+  -- an answer fits the room
+  turn-fits : answerMost ≤ length out → length (saidTo s (take (from + n) bytes)) ≤ end
+  turn-fits enough =
+      let left = came .room enough in
+      let before = left .none-lost in
+      let room = left .room in
+      let size : length mid ≡ length out = put-long (came .said) in
+      rw (turn-is, length-append (saidTo s (take from bytes)) (saidTo t (take n (drop from bytes))))
+      (omega (arith, rest .said .few, rest .said .puts .place))
+
+  -- and then as many as are served where there is room for one more answer
+  turn-count : servedTo (length out) 0 s bytes ≡ from + n + pick (roomAt (length after) end) (servedTo (length out) end u (drop (from + n) bytes)) 0
+  turn-count =
+      let N = length out in
+      let size : length mid ≡ N = put-long (came .said) in
+      let same : length after ≡ N = put-long (rest .said .puts) ∙ size in
+      let end-is : end ≡ placeAfter N at (length (saidTo t (take n (drop from bytes)))) = rest .said .puts .place ∙ ap (λ k. placeAfter k at (length (saidTo t (take n (drop from bytes))))) size in
+      came .count
+      ∙ ap (λ k. from + k) (served-turn (drop from bytes) N at t)
+      ∙ ap (λ j. from + (j + turnTo N at t (drop from bytes) j)) (sym (rest .count))
+      ∙ ap (λ e. from + (n + pick (roomAt N e) (servedTo N e (fed servedByte t (take n (drop from bytes))) (drop n (drop from bytes))) 0)) (sym end-is)
+      ∙ ap (λ h. from + (n + pick (roomAt N end) (servedTo N end h (drop n (drop from bytes))) 0)) (sym (rest .left))
+      ∙ ap (λ l. from + (n + pick (roomAt N end) (servedTo N end u l) 0)) (drop-drop n from bytes)
+      ∙ ap (λ k. from + (n + pick (roomAt k end) (servedTo N end u (drop (from + n) bytes)) 0)) (sym same)
+      ∙ add-again from n (pick (roomAt (length after) end) (servedTo N end u (drop (from + n) bytes)) 0)
+
+  -- there is room: the loop goes on
+  pub came-more : roomAt (length after) end ≡ true → Came s bytes out u (from + n) after end
+  came-more is =
+      let same : length after ≡ length out = put-long turn-said in
+      record {
+        few = turn-most;
+        left = turn-left;
+        said = turn-said;
+        count = turn-count ∙ ap (λ r. from + n + pick r (servedTo (length out) end u (drop (from + n) bytes)) 0) is;
+        room = λ enough. record { none-lost = turn-fits enough; room = omega (arith, room-told (length after) end is) };
+      }
+
+  -- there is none
+  pub lines-full : roomAt (length after) end ≡ false → ServedLines s bytes out u (from + n) after end
+  lines-full is =
+      let count = turn-count ∙ ap (λ r. from + n + pick r (servedTo (length out) end u (drop (from + n) bytes)) 0) is in
+      record {
+        count = omega (arith, count);
+        left = turn-left;
+        said = turn-said;
+        whole = λ enough. all-put turn-said (turn-fits enough);
+      }
+
+-- all bytes are served
+pub lines-all : {s : Heard} {bytes out : List ℕ} {t : Heard} {next : ℕ} {after : List ℕ} {at : ℕ} → Came s bytes out t next after at → length bytes ≤ next
+    → ServedLines s bytes out t next after at
+lines-all {s} {bytes} {out} {t} {next} {after} {at} came past =
+    let end : next ≡ length bytes = omega (arith, came .few) in
+    let none : drop next bytes ≡ [] = ap (λ k. drop k bytes) end ∙ drop-length bytes in
+    let count = came .count ∙ ap (λ l. next + servedTo (length out) at t l) none in
+    record {
+      count = omega (arith, count);
+      left = came .left;
+      said = came .said;
+      whole = λ enough. all-put (came .said) (came .room enough .none-lost);
+    }
+
+-- no more bytes than there are, and some where there are some
+pub served-lines : (s : Heard) {bytes out : List ℕ} {t : Heard} {next : ℕ} {after : List ℕ} {end : ℕ} → ServedLines s bytes out t next after end → 0 < length bytes
+    → (0 < next) × (next ≤ length bytes)
+served-lines s {bytes} {out} served some =
+    (omega (arith, served .count, served-some bytes (length out) 0 s some), omega (arith, served .count, served-most bytes (length out) 0 s))
 
 -- ---- the input's end
 -- nothing has come of the last line
-pub last-none : {s : Heard} {out : List ℕ} → begunLine (s .line) ≡ false → ServedLast s out out 0
-last-none {s} {out} none = record { said = λ soFar h. rw (empty soFar h) put-no-byte; whole = λ enough soFar h. rw (empty soFar h) }
-  where
-    empty : (soFar : List ℕ) → Hears s soFar → lastSaid soFar ≡ []
-    empty [] h = refl
-    empty (b ∷ bs) h = let begun = begun-some h in never (cc)
+pub last-none : {s : Heard} {out : List ℕ} → begunLine (s .line) ≡ false → ServedLast s out (s .numbers) out 0
+last-none none = record { said = rw none put-no-byte; left-is = rw none refl; whole = λ enough. rw none refl }
 
 -- something has
-pub last-some : {s : Heard} {out after : List ℕ} {end : ℕ} → begunLine (s .line) ≡ true → PutFew answerMost out 0 (answerSaid s ++ (10 ∷ [])) after end → ServedLast s out after end
-last-some {s} {out} {after} {end} begun put =
-    record {
-      said = λ soFar h. rw (all soFar h) (put .puts);
-      whole = λ enough soFar h. all-few-put put enough ∙ sym (all soFar h);
-    }
-  where
-    all : (soFar : List ℕ) → Hears s soFar → lastSaid soFar ≡ answerSaid s ++ (10 ∷ [])
-    all [] h = let none : begunLine (s .line) ≡ false = ap (λ t. begunLine (t .line)) (h .is) in never (cc)
-    all (b ∷ bs) h = ap (λ w. w ++ (10 ∷ [])) (sym (hears-said h))
+pub last-some : {s : Heard} {out left after : List ℕ} {end : ℕ} → begunLine (s .line) ≡ true → PutFew answerMost out 0 (lineSaid s) after end → left ≡ answerLeft s
+    → ServedLast s out left after end
+last-some begun put left-is = record { said = rw begun (put .puts); left-is = rw begun left-is; whole = λ enough. rw begun (all-few-put put enough) }

@@ -1,19 +1,20 @@
 -- The answer to a line: what its call answers, or bad where the line is no call.
--- `answerTo` says it of the line's bytes. `answerSaid` says it of a line as it has been heard, as the code goes, and contracts
--- cite it; that the two agree is `line-is` of `proofs/Theorems.antt`.
+-- `answerTo` says it of the line's bytes. `answerSaid` says it of a line as it has been heard, as the code goes, and `answerLeft` what
+-- the run of the line's numbers then holds; contracts cite these. That the two answers agree is `line-is` of `proofs/Theorems.antt`.
 -- Assumes nothing: these are definitions.
 use Prim.Native.Nat.{ℕ}
-use mathlib.Core.List.{List, [], _∷_}
-use lib.ListN.{length, take}
-use lib.Dec.{ltb}
-use Rattle.ranges.specs.Numbers.{pick}
-use Rattle.text.specs.Rows.{cellsIn, allNumbers, valuesOf, rowNext, keptAt}
+use mathlib.Core.Bool.{Bool}
+use mathlib.Core.List.{List, [], _∷_, _++_}
+use lib.ListN.{length, take, drop}
+use lib.Dec.{leb}
+use Rattle.ranges.specs.Numbers.{pick, _and_}
+use Rattle.text.specs.Rows.{cellsIn, allNumbers, valuesOf, good, rowNext, keptAt}
 use Rattle.text.specs.declared.row.Row.{Row}
+use Rattle.words.specs.Words.{badSaid, checkSaid, scanSaid, independentSaid, tabledSaid, p2rSaid, r2pSaid, r2pLeft}
 use Rattle.calls.specs.declared.word.Word.{Word}
 use Rattle.calls.specs.declared.word.Word.the-variants.{Check, Scan, Independent, Table, P2r, R2p, Unknown}
 use Rattle.calls.specs.Lines.{Heard}
 use Rattle.calls.specs.Names.{wordOf}
-use Rattle.calls.specs.Words.{badSaid, checkSaid, scanSaid, independentSaid, tabledSaid, p2rSaid, r2pSaid}
 
 -- what a call answers, given the line's numbers after its name
 abbrev pub wordSaid : Word → List ℕ → List ℕ
@@ -24,6 +25,16 @@ wordSaid (Table word) ns = tabledSaid word ns
 wordSaid P2r ns = p2rSaid ns
 wordSaid R2p ns = r2pSaid ns
 wordSaid Unknown ns = badSaid
+
+-- what it leaves of them: r2p writes its run in place, and no other call writes
+abbrev pub wordLeft : Word → List ℕ → List ℕ
+wordLeft Check ns = ns
+wordLeft Scan ns = ns
+wordLeft Independent ns = ns
+wordLeft (Table word) ns = ns
+wordLeft P2r ns = ns
+wordLeft R2p ns = r2pLeft ns
+wordLeft Unknown ns = ns
 
 -- ---- of a line's bytes
 -- a name alone, and nothing, are no calls; every other word has to be a number
@@ -37,17 +48,26 @@ abbrev pub answerTo : List ℕ → List ℕ
 answerTo line = wordsSaid (cellsIn 32 line)
 
 -- ---- of a line as it has been heard
--- where every number stands and there was room for it
-abbrev pub namedSaid : ℕ → List ℕ → Row → List ℕ → List ℕ
-namedSaid k name row run =
-    pick (row .good)
-    (pick (ltb (length run) (row .cells)) badSaid
-    (pick (ltb (length name) k) badSaid
-    (wordSaid (wordOf (take k name)) (take (row .cells) run))))
-    badSaid
+-- where its name has ended: every number stands, there was room for it, and k bytes of the name are there
+unfoldable pub isCall : ℕ → List ℕ → Row → List ℕ → Bool
+isCall k name row run = good row and leb (row .cells) (length run) and leb k (length name)
 
+abbrev pub namedSaid : ℕ → List ℕ → Row → List ℕ → List ℕ
+namedSaid k name row run = pick (isCall k name row run) (wordSaid (wordOf (take k name)) (take (row .cells) run)) badSaid
+
+-- what is left of the run: past the call's numbers it stays
+abbrev pub namedLeft : ℕ → List ℕ → Row → List ℕ → List ℕ
+namedLeft k name row run = pick (isCall k name row run) (wordLeft (wordOf (take k name)) (take (row .cells) run) ++ drop (row .cells) run) run
+
+-- the line's end ends its last number
 unfoldable pub answerSaid : Heard → List ℕ
 answerSaid s =
     pick (s .line .named)
     (namedSaid (s .line .length) (s .name) (rowNext (s .line .row)) (keptAt (s .line .row) 0 (s .numbers)))
     badSaid
+
+unfoldable pub answerLeft : Heard → List ℕ
+answerLeft s =
+    pick (s .line .named)
+    (namedLeft (s .line .length) (s .name) (rowNext (s .line .row)) (keptAt (s .line .row) 0 (s .numbers)))
+    (s .numbers)

@@ -6,8 +6,11 @@ use Prim.Native.Nat.{ℕ}
 use mathlib.Core.List.{List, [], _∷_, _++_}
 use lib.Dec.{eqb}
 use Rattle.ranges.specs.Numbers.{pick}
+use Rattle.text.specs.Cells.{fed}
 use Rattle.text.specs.Rows.{inFront}
+use Rattle.calls.specs.Lines.{Heard}
 use Rattle.calls.specs.Answers.{answerTo}
+use Rattle.calls.specs.Replies.{servedByte, saidTo, lastSaid}
 
 -- ---- the whole input
 -- its lines: LF ends a line, and what follows the last LF, if anything, is a line too
@@ -28,22 +31,7 @@ abbrev pub inputSaid : List ℕ → List ℕ
 inputSaid bytes = answersTo (inputLines bytes)
 
 -- ---- in pieces
--- what a piece's bytes answer where soFar has come of the present line: LF ends the line, any other byte belongs to it
-abbrev pub saidFrom : List ℕ → List ℕ → List ℕ
-saidFrom soFar [] = []
-saidFrom soFar (b ∷ bs) = pick (eqb b 10) (answerLine soFar ++ saidFrom [] bs) (saidFrom (soFar ++ (b ∷ [])) bs)
-
--- what has come of the present line after them
-abbrev pub leftFrom : List ℕ → List ℕ → List ℕ
-leftFrom soFar [] = soFar
-leftFrom soFar (b ∷ bs) = pick (eqb b 10) (leftFrom [] bs) (leftFrom (soFar ++ (b ∷ [])) bs)
-
--- what the input's end answers: a last line that no LF ends, where anything has come of it
-abbrev pub lastSaid : List ℕ → List ℕ
-lastSaid [] = []
-lastSaid (b ∷ bs) = answerLine (b ∷ bs)
-
--- pieces one after the other, and the input's end
-abbrev pub piecesSaid : List ℕ → List (List ℕ) → List ℕ
-piecesSaid soFar [] = lastSaid soFar
-piecesSaid soFar (p ∷ ps) = saidFrom soFar p ++ piecesSaid (leftFrom soFar p) ps
+-- one piece after the other from the line s on, each with the line that the one before it left, and the input's end
+abbrev pub piecesSaid : Heard → List (List ℕ) → List ℕ
+piecesSaid s [] = lastSaid s
+piecesSaid s (p ∷ ps) = saidTo s p ++ piecesSaid (fed servedByte s p) ps

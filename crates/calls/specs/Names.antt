@@ -6,7 +6,7 @@ use Rattle.ranges.specs.Numbers.{pick, sameList}
 use Rattle.text.specs.Texts.{bytes}
 use Rattle.calls.specs.declared.word.Word.{Word}
 use Rattle.calls.specs.declared.word.Word.the-variants.{Check, Scan, Independent, Table, P2r, R2p, Unknown}
-use Rattle.calls.specs.declared.word.TableWord.the-variants.{Build, Lookup, Audit, Report}
+use Rattle.words.specs.declared.table_words.TableWord.the-variants.{Build, Lookup, Audit, Report}
 
 -- the calls of prefixes and ranges
 unfoldable pub prefixWord : List ℕ → Word

@@ -1,26 +1,28 @@
 // The answer to a line that has been heard whole.
 use crate::line::Line;
-use crate::list_words::call_check;
-use crate::list_words::call_independent;
-use crate::list_words::call_scan;
-use crate::prefix_words::call_p2r;
-use crate::prefix_words::call_r2p;
-use crate::say::put_bad;
-use crate::table_words::call_table;
 use crate::word::Word;
 use crate::word::word_of;
 use text::put::put_byte;
 use text::row::row_next;
+use words::list_words::call_check;
+use words::list_words::call_independent;
+use words::list_words::call_scan;
+use words::prefix_words::call_p2r;
+use words::prefix_words::call_r2p;
+use words::say::put_bad;
+use words::table_words::call_table;
 ghost use Prim.Native.Nat.{_-_};
-ghost use mathlib.Core.List.{[], _∷_, _++_};
-ghost use Rattle.calls.specs.Limits.{answerMost};
-ghost use Rattle.calls.specs.Few.{PutFew};
+ghost use mathlib.Core.Path.{_≡_};
+ghost use Rattle.words.specs.Limits.{answerMost};
+ghost use Rattle.words.specs.Few.{PutFew};
 ghost use Rattle.calls.specs.Lines.{heard};
-ghost use Rattle.calls.specs.Answers.{wordSaid, answerSaid};
+ghost use Rattle.calls.specs.Answers.{wordSaid, wordLeft, answerSaid, answerLeft};
+ghost use Rattle.calls.specs.Replies.{lineSaid};
 
-// Puts what a call answers, given the line's numbers after its name.
+// Puts what a call answers, given the line's numbers after its name. One call, r2p, writes among them.
 fn put_word(word: Word, given: &mut [u32], out: &mut [u8], at: usize) -> usize
     ensures { λ r. ⌜ PutFew (answerMost - 1) (now (out .entry)) at (wordSaid word (now (given .entry))) (now (out .exit)) r ⌝ }
+    ensures { λ _. ⌜ now (given .exit) ≡ wordLeft word (now (given .entry)) ⌝ }
 {
     match word {
         Word::Check => call_check(given, out, at),
@@ -33,17 +35,18 @@ fn put_word(word: Word, given: &mut [u32], out: &mut [u8], at: usize) -> usize
     }
 }
 
-// Puts the answer to a line, without its LF.
+// Puts the answer to a line, without its LF. The line's end ends its last number, which goes to its place first.
 fn put_answer(line: Line, name: &[u8], numbers: &mut [u32], out: &mut [u8], at: usize) -> usize
     ensures { λ r.
         ⌜ PutFew (answerMost - 1) (now (out .entry)) at (answerSaid (heard line (now (name .entry)) (now (numbers .entry)))) (now (out .exit)) r ⌝ }
+    ensures { λ _. ⌜ now (numbers .exit) ≡ answerLeft (heard line (now (name .entry)) (now (numbers .entry))) ⌝ }
 {
     if !line.named {
         return put_bad(out, at);
     }
     let last = line.row;
     let row = row_next(last, 0, numbers);
-    if !row.good {
+    if row.bad != 0 {
         return put_bad(out, at);
     }
     let count = row.cells as usize;
@@ -61,7 +64,8 @@ fn put_answer(line: Line, name: &[u8], numbers: &mut [u32], out: &mut [u8], at: 
 // Puts the answer to a line, with its LF.
 pub fn answer(line: Line, name: &[u8], numbers: &mut [u32], out: &mut [u8], at: usize) -> usize
     ensures { λ r.
-        ⌜ PutFew answerMost (now (out .entry)) at (answerSaid (heard line (now (name .entry)) (now (numbers .entry))) ++ (10 ∷ [])) (now (out .exit)) r ⌝ }
+        ⌜ PutFew answerMost (now (out .entry)) at (lineSaid (heard line (now (name .entry)) (now (numbers .entry)))) (now (out .exit)) r ⌝ }
+    ensures { λ _. ⌜ now (numbers .exit) ≡ answerLeft (heard line (now (name .entry)) (now (numbers .entry))) ⌝ }
 {
     let next = put_answer(line, name, numbers, out, at);
     put_byte(b'\n', out, next)

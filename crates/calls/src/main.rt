@@ -18,26 +18,20 @@
 // plain decimals without leading zeros, 0 to 4294967295, those of a table to 65535.
 //
 // A line may be of any length and may come in pieces: it is heard byte by byte (`line`), its numbers go to a lent run,
-// and once it has ended its word decides what is made of them (`word`, `answer`). A word is one small function
-// (`list_words`, `table_words`, `prefix_words`): it finds the parts of the line's numbers by their places (`part`), calls
-// the library, and puts the answer's text (`say`) into the run of bytes that is written out. So input comes to answers
-// on slices, and that is proved (`reply`); only `read` and `write` are the system's (`serve`).
+// and once it has ended its word decides what is made of them (`word`, `answer`). What each word answers is the crate
+// `words`: it finds the parts of the line's numbers, calls the library, and puts the answer's text into the run of bytes
+// that is written out. So input comes to answers on slices, and that is proved (`reply`); only `read` and `write` are
+// the system's (`serve`).
 mod answer;
-mod limits;
 mod line;
-mod list_words;
-mod part;
-mod prefix_words;
 mod reply;
-mod say;
 mod serve;
-mod table_words;
 mod word;
 
-use limits::LINE_ROOM;
-use limits::NAME_ROOM;
-use limits::OUT_ROOM;
 use serve::serve_all;
+use words::limits::LINE_ROOM;
+use words::limits::NAME_ROOM;
+use words::limits::OUT_ROOM;
 
 fn main() {
     let mut bytes = io::large_buffer();

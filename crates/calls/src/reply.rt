@@ -1,10 +1,10 @@
 // Lines in, answers out, on slices: bytes are heard, and where a line ends in them its answer is put.
 use crate::answer::answer;
-use crate::limits::ANSWER_MOST;
 use crate::line::Line;
 use crate::line::hear;
 use crate::line::line_in;
 use crate::line::line_start;
+use words::limits::ANSWER_MOST;
 ghost use mathlib.Core.Path.{_≡_};
 ghost use lib.ListN.{length};
 ghost use Rattle.calls.specs.Lines.{heard};
@@ -42,9 +42,11 @@ fn serve_line(
         };
     }
     let place = answer(more, name, numbers, out, at);
+    let anew = line_start();
+    let next = k + 1;
     Place {
-        line: line_start(),
-        next: k + 1,
+        line: anew,
+        next,
         at: place,
     }
 }
@@ -113,7 +115,8 @@ fn has_begun(line: Line) -> bool
 
 // Puts the answer to a last line that no LF ends, where anything has come of it.
 pub fn put_last(line: Line, name: &[u8], numbers: &mut [u32], out: &mut [u8]) -> usize
-    ensures { λ r. ⌜ ServedLast (heard line (now (name .entry)) (now (numbers .entry))) (now (out .entry)) (now (out .exit)) r ⌝ }
+    ensures { λ r.
+        ⌜ ServedLast (heard line (now (name .entry)) (now (numbers .entry))) (now (out .entry)) (now (numbers .exit)) (now (out .exit)) r ⌝ }
 {
     if !has_begun(line) {
         return 0;

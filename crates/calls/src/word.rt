@@ -1,14 +1,7 @@
 // The names of the calls.
+use words::table_words::TableWord;
 ghost use mathlib.Core.Path.{_≡_};
 ghost use Rattle.calls.specs.Names.{prefixWord, tableWord, wordOf};
-
-// The calls of a list and a table.
-pub enum TableWord {
-    Build,
-    Lookup,
-    Audit,
-    Report,
-}
 
 // What a line's first word asks for.
 pub enum Word {

@@ -1,39 +1,37 @@
--- The headers file read byte by byte prints what `specs/HeaderLines.antt` says of its lines. A line is read from an empty
--- row and a header of zeros, so its bytes come to its cells (`row-is` of the crate text); what is printed for the row and
--- the header is what is printed for the cells; and the line's end leaves an empty row and zeros again.
---     headers-read       what the whole file prints
+-- The headers file read byte by byte prints what `HeaderLines.antt` of the crate answers says of its lines, and counts which of them are refused. A line is
+-- read from nothing into a header of zeros (`wholeLine` of the crate text), and its end leaves zeros again.
+--     line-answered      one line
+--     headers-read       what the whole file prints, and what its lines come to
 -- Assumes nothing.
 use Prim.Native.Nat.{ℕ, zero, suc, _+_, _-_, _≤_, _<_}
-use mathlib.Core.Bool.{Bool, true, false}
+use mathlib.Core.Bool.{Bool, true, false, not}
 use mathlib.Core.List.{List, [], _∷_, _++_, append-assoc, append-nil}
 use mathlib.Core.Path.{_≡_, refl, sym, ap, _∙_}
 use native.Mathlib.Omega.{arith}
-use borrow.Author.Tests.{eqb-true}
+use borrow.Author.Tests.{eqb-true, eqb-false, eq-eqb, ne-eqb}
 use lib.Dec.{eqb}
 use lib.ListN.{length, take, drop, replicate}
 use lib.Seq.{sets, sets-eq, take-append-add}
-use Rattle.ranges.specs.Numbers.{pick}
+use Rattle.ranges.specs.Numbers.{pick, _and_}
 use Rattle.lists.specs.Rules.{Rules, fieldsOf}
-use Rattle.lookup.specs.Lookup.{lookupOf}
 use Rattle.lists.specs.Headers.{headerLength, zeros}
+use Rattle.lookup.specs.Lookup.{lookupOf}
 use Rattle.text.specs.Cells.{fed}
-use Rattle.text.specs.Rows.{fresh, allNumbers, valuesOf, Reading, begin, ended, readByte, readCells}
-use Rattle.text.proofs.Rows.{row-is}
-use Rattle.text.proofs.Counted.{cells-good, cells-count, cells-run, cells-long, values-length, many-same}
-use Rattle.gateway.specs.Files.{linesOf, step, lastLine, finish, overLines}
-use Rattle.gateway.specs.RuleLines.{cellsOf}
-use Rattle.gateway.specs.Said.{refusedSaid, lookedSaid}
-use Rattle.gateway.specs.HeaderLines.{eightOf, cellsSaid, headerOf, lineSaid, linesSaid}
-use Rattle.gateway.specs.HeaderBytes.{HeadersNow, headersNow, headersInFile, headerLine, headerState, noHeaders, headersAnswered, headersByte, headersClose, headersBegun}
-use Rattle.gateway.proofs.Files.{file-is}
+use Rattle.text.specs.Files.{linesOf}
+use Rattle.text.specs.Rows.{allNumbers, valuesOf, manyMore, badIn, begin, readCells}
+use Rattle.text.specs.Lines.{cellsOf, feedIn, wholeLine}
+use Rattle.text.specs.Judging.{Judged, judged, judgedLines}
+use Rattle.text.proofs.Rows.{bad-first}
+use Rattle.text.proofs.Counted.{cells-bad, bad-none, cells-count, cells-run, values-length, many-few, many-same}
+use Rattle.text.proofs.Judging.{judged-is}
+use Rattle.answers.specs.Said.{refusedSaid, lookedSaid}
+use Rattle.answers.specs.Counts.{noLines, countedBy}
+use Rattle.answers.specs.HeaderLines.{headerFlaw, isRefused, answerSaid, headerOf, lineSaid, linesSaid, flawOn}
+use Rattle.gateway.specs.HeaderBytes.{noHeaders, Answered, answered, headerAt, judgeHeader, headersInFile, headersStep, headersEnd}
+use Rattle.answers.proofs.Flaws.{flaw-feed, flaw-bad, flaw-none, flaw-other, said-refused, said-looked}
+use Rattle.answers.proofs.Counting.{counts}
 
--- ---- a line's bytes and its end, whatever has come of it before
-line-reads : (R : Rules) (T l : List ℕ) (x : HeadersNow) → headersClose R T (fed headersByte x l) ≡ headersAnswered R T (ended 0 (fed (readByte 44 0) (headerLine x) l)) (x .said)
-unfolding headersByte headersClose
-line-reads R T [] x = refl
-line-reads R T (b ∷ l) x = line-reads R T l (headersByte x b)
-
--- ---- a line's cells
+-- ---- a line's cells, read into zeros
 -- a run of zeros, cut
 zeros-drop : (k n : ℕ) → k ≤ n → drop k (replicate {A = ℕ} n 0) ≡ replicate (n - k) 0
 zeros-drop zero n le = let same : n - 0 ≡ n = omega arith in rw same
@@ -58,68 +56,71 @@ front ns few =
     ∙ sym (take-append-add ns zeros (headerLength - length ns))
     ∙ ap (λ j. take j (ns ++ zeros)) eight
 
+-- the header of as many numbers as there are fields
+run-is : (cs : List (List ℕ)) → allNumbers cs ≡ true → length cs ≤ headerLength → readCells 0 (begin zeros) cs .run ≡ headerOf cs
+run-is cs all few =
+    let short : length (valuesOf cs) ≤ headerLength = omega (arith, values-length cs) in
+    cells-run cs 0 (begin zeros) all (omega arith) ∙ front (valuesOf cs) short
+
+-- ---- a line
 module _ (R : Rules) (T : List ℕ) (narrow : fieldsOf R ≤ headerLength) where
-  -- the row and the header of a line's cells, read into zeros
-  abbrev cellsRead : List (List ℕ) → Reading
-  cellsRead cs = readCells 0 (begin zeros) cs
+  abbrev d : ℕ
+  d = fieldsOf R
 
-  cells-said : (cs : List (List ℕ))
-      → cellsSaid R T (cellsRead cs .row .good) (cellsRead cs .row .cells) (cellsRead cs .run) ≡ cellsSaid R T (allNumbers cs) (length cs) (headerOf cs)
-  unfolding cellsSaid
-  cells-said cs =
-      rw (cells-good 0 (begin zeros) cs, cells-count 0 (begin zeros) cs, many-same cs (fieldsOf R) small)
-      (go (allNumbers cs) (eqb (length cs) (fieldsOf R)) refl refl)
+  -- the flaw of a line as it is read
+  flaw-here : (l : List ℕ) → let w = wholeLine 0 zeros l .line in headerFlaw d (w .feed) (w .row .bad) (w .row .cells) ≡ flawOn d l
+  flaw-here l =
+      ap (λ k. headerFlaw d (feedIn l) k (readCells 0 (begin zeros) (cellsOf l) .row .cells)) (cells-bad 0 (begin zeros) (cellsOf l) ∙ bad-first 0 (badIn 0 (cellsOf l)) refl)
+      ∙ ap (headerFlaw d (feedIn l) (badIn 0 (cellsOf l))) (cells-count 0 (begin zeros) (cellsOf l))
+
+  small : d < 65535
+  small = omega arith
+
+  -- a line is refused exactly where it is bad or hasn't d cells
+  refused-is : (l : List ℕ) → (s t : Bool) → allNumbers (cellsOf l) ≡ s → eqb (length (cellsOf l)) d ≡ t → isRefused (flawOn d l) ≡ not (s and t)
+  refused-is l s t p q = go s t (bad-none 0 (cellsOf l) ∙ p) (many-same (cellsOf l) d small ∙ q)
     where
-      small : fieldsOf R < 65535
-      small = omega arith
+      go : (s t : Bool) → eqb (badIn 0 (cellsOf l)) 0 ≡ s → eqb (manyMore 0 (cellsOf l)) d ≡ t → isRefused (flawOn d l) ≡ not (s and t)
+      go true true e f = ap isRefused (flaw-none d (feedIn l) (badIn 0 (cellsOf l)) (manyMore 0 (cellsOf l)) (eqb-true (badIn 0 (cellsOf l)) 0 e) (eqb-true (manyMore 0 (cellsOf l)) d f))
+      go true false e f = ap isRefused (flaw-other d (feedIn l) (badIn 0 (cellsOf l)) (manyMore 0 (cellsOf l)) (eqb-true (badIn 0 (cellsOf l)) 0 e) (eqb-false (manyMore 0 (cellsOf l)) d f))
+      go false t e f = by-feed (feedIn l) refl
+        where
+          by-feed : (u : Bool) → feedIn l ≡ u → isRefused (flawOn d l) ≡ true
+          by-feed true g = ap isRefused (flaw-feed d (feedIn l) (badIn 0 (cellsOf l)) (manyMore 0 (cellsOf l)) (eqb-false (badIn 0 (cellsOf l)) 0 e) g)
+          by-feed false g = ap isRefused (flaw-bad d (feedIn l) (badIn 0 (cellsOf l)) (manyMore 0 (cellsOf l)) (eqb-false (badIn 0 (cellsOf l)) 0 e) g)
 
-      run : allNumbers cs ≡ true → length cs ≡ fieldsOf R → cellsRead cs .run ≡ headerOf cs
-      run all is =
-          let few : length cs ≤ headerLength = omega arith in
-          let short : length (valuesOf cs) ≤ headerLength = omega (arith, values-length cs) in
-          cells-run cs 0 (begin zeros) all (omega arith) ∙ front (valuesOf cs) short
+  -- what is printed for it
+  said-is : (l : List ℕ) → answerSaid R T (flawOn d l) (wholeLine 0 zeros l .run) ≡ lineSaid R T l
+  said-is l = go (allNumbers (cellsOf l)) (eqb (length (cellsOf l)) d) refl refl
+    where
+      go : (s t : Bool) → allNumbers (cellsOf l) ≡ s → eqb (length (cellsOf l)) d ≡ t
+          → answerSaid R T (flawOn d l) (wholeLine 0 zeros l .run) ≡ pick (s and t) (lookedSaid (lookupOf R T (headerOf (cellsOf l)))) (refusedSaid 8)
+      go true true p q =
+          let count = eqb-true (length (cellsOf l)) d q in
+          said-looked R T (flawOn d l) (wholeLine 0 zeros l .run) (refused-is l true true p q)
+          ∙ ap (λ h. lookedSaid (lookupOf R T h)) (run-is (cellsOf l) p (omega arith))
+      go true false p q = said-refused R T (flawOn d l) (wholeLine 0 zeros l .run) (refused-is l true false p q)
+      go false t p q = said-refused R T (flawOn d l) (wholeLine 0 zeros l .run) (refused-is l false t p q)
 
-      go : (s t : Bool) → allNumbers cs ≡ s → eqb (length cs) (fieldsOf R) ≡ t
-          → pick s (pick t (lookedSaid (lookupOf R T (eightOf (cellsRead cs .run)))) (refusedSaid 8)) (refusedSaid 8)
-          ≡ pick s (pick t (lookedSaid (lookupOf R T (eightOf (headerOf cs)))) (refusedSaid 8)) (refusedSaid 8)
-      go false t p q = refl
-      go true false p q = refl
-      go true true p q = ap (λ h. lookedSaid (lookupOf R T (eightOf h))) (run p (eqb-true (length cs) (fieldsOf R) q))
+  -- what a line leaves
+  line-answered : (y : Answered) (l : List ℕ)
+      → judgeHeader R T y (wholeLine 0 zeros l) ≡ judged (answered (countedBy (y .headers) (flawOn d l)) (y .said ++ lineSaid R T l)) zeros
+  line-answered y l =
+      ap (λ g. judged (answered (countedBy (y .headers) g) (y .said ++ answerSaid R T g (wholeLine 0 zeros l .run))) zeros) (flaw-here l)
+      ∙ ap (λ w. judged (answered (countedBy (y .headers) (flawOn d l)) (y .said ++ w)) zeros) (said-is l)
 
-  -- ---- a line, and lines one after the other
-  -- at a line's start
-  abbrev startsWith : List ℕ → HeadersNow
-  startsWith said = headersNow (headerState false fresh) zeros said
-
-  line-said : (l said : List ℕ) → headersClose R T (fed headersByte (startsWith said) l) ≡ startsWith (said ++ lineSaid R T l)
-  line-said l said =
-      line-reads R T l (startsWith said)
-      ∙ ap (λ e. headersAnswered R T e said) (row-is 44 0 zeros l)
-      ∙ ap (λ k. headersNow (headerState false fresh) (replicate k 0) (said ++ cellsSaid R T (cellsRead (cellsOf l) .row .good) (cellsRead (cellsOf l) .row .cells) (cellsRead (cellsOf l) .run)))
-      (cells-long (cellsOf l) 0 (begin zeros))
-      ∙ ap (λ w. startsWith (said ++ w)) (cells-said (cellsOf l))
-
-  lines-said : (ls : List (List ℕ)) (said : List ℕ)
-      → overLines headersByte (headersClose R T) headersBegun (startsWith said) ls .said ≡ said ++ linesSaid R T ls
-  unfolding lastLine
-  lines-said [] said = sym (append-nil said)
-  lines-said (l ∷ ls) said =
-      ap (λ x. overLines headersByte (headersClose R T) headersBegun x ls .said) (line-said l said)
-      ∙ lines-said ls (said ++ lineSaid R T l)
-      ∙ append-assoc said (lineSaid R T l) (linesSaid R T ls)
+  -- ---- lines one after the other
+  lines-answered : (ls : List (List ℕ)) (y : Answered)
+      → judgedLines headerAt (judgeHeader R T) y zeros ls ≡ judged (answered (counts d (y .headers) ls) (y .said ++ linesSaid R T ls)) zeros
+  lines-answered [] y = ap (λ w. judged (answered (y .headers) w) zeros) (sym (append-nil (y .said)))
+  lines-answered (l ∷ ls) y =
+      ap (λ j. judgedLines headerAt (judgeHeader R T) (j .own) (j .run) ls) (line-answered y l)
+      ∙ lines-answered ls (answered (countedBy (y .headers) (flawOn d l)) (y .said ++ lineSaid R T l))
+      ∙ ap (λ w. judged (answered (counts d (countedBy (y .headers) (flawOn d l)) ls) w) zeros) (append-assoc (y .said) (lineSaid R T l) (linesSaid R T ls))
 
   -- ---- the whole file
-  closed : (x : HeadersNow) → lastLine (headersClose R T) headersBegun (headersClose R T x) ≡ headersClose R T x
-  unfolding headersClose lastLine
-  closed x = refl
-
-  begins : (x : HeadersNow) (b : ℕ) → lastLine (headersClose R T) headersBegun (headersByte x b) ≡ headersClose R T (headersByte x b)
-  unfolding headersByte lastLine
-  begins x b = refl
-
-  -- what the whole file prints, read byte by byte
   pub headers-read : (bs : List ℕ)
-      → finish headersByte (headersClose R T) headersBegun (fed (step headersByte (headersClose R T)) (headersInFile noHeaders zeros []) bs) .said
-      ≡ linesSaid R T (linesOf bs)
+      → headersEnd R T (fed (headersStep R T) (headersInFile noHeaders zeros []) bs) ≡ answered (counts d noLines (linesOf bs)) (linesSaid R T (linesOf bs))
   headers-read bs =
-      ap (λ x. x .said) (file-is headersByte (headersClose R T) headersBegun closed begins bs (startsWith [])) ∙ lines-said (linesOf bs) []
+      ap (λ x. x .own) (judged-is headerAt (judgeHeader R T) bs zeros (answered noLines []))
+      ∙ ap (λ j. j .own) (lines-answered (linesOf bs) (answered noLines []))

@@ -1,111 +1,166 @@
--- Laws of what is printed while the headers file is read (`specs/Printing.antt`).
---     wrote-none, wrote-then, put-wrote         bytes put from a place on, none left out
---     close-printed                             a line's end
---     printed-none, printed-close               one byte of the file
---     fed-printed                               one byte more
+-- Laws of what is printed while the headers file is read (`specs/HeaderBytes.antt`).
+--     wrote-none, wrote-then, line-wrote        bytes put from a place on, none left out
+--     took-open, took-ends                      bytes to the end of the present line
+--     Going, going-start, going-more            a piece, line by line
+--     piece-full, piece-all                     its end, or no more room
+--     end-stays, end-answered                   the file's end
 -- Assumes nothing.
-use Prim.Native.Nat.{ℕ, _+_, _≤_, _<_}
-use mathlib.Core.Bool.{false}
+use Prim.Native.Nat.{ℕ, _+_, _-_, _≤_, _<_}
+use mathlib.Core.Bool.{Bool, true, false}
 use mathlib.Core.List.{List, [], _++_, append-assoc, append-nil}
-use mathlib.Core.Path.{_≡_, refl, sym, ap, _∙_}
+use mathlib.Core.Path.{_≡_, refl, sym, ap, _∙_, subst}
 use native.Mathlib.Omega.{arith}
-use lib.ListN.{length, getD, take, drop, replicate, length-append}
-use lib.Seq.{take-at, length-take-le}
+use lib.ListN.{length, take, drop, length-append}
 use Rattle.lists.specs.Rules.{Rules}
-use Rattle.text.specs.Rows.{fresh, rowNext, keptAt}
+use Rattle.lists.specs.Headers.{zeros}
 use Rattle.text.specs.Cells.{fed}
+use Rattle.text.specs.Files.{InFile, inFile, lineIn}
+use Rattle.text.specs.Lines.{noBytes, noLine, LineNow, lineNow, TookLine, TookLast}
+use Rattle.text.specs.Judging.{Over, over, overByte, overClose, overIn, overEnd, anew}
 use Rattle.text.specs.Puts.{Put}
-use Rattle.text.specs.declared.row.Row.{Row}
-use Rattle.text.proofs.Feeding.{fed-more}
-use Rattle.text.proofs.Puts.{put-long, put-place, put-fits}
-use Rattle.gateway.specs.Files.{InFile, inFile, step}
-use Rattle.gateway.specs.Said.{PutLine}
-use Rattle.gateway.specs.HeaderLines.{cellsSaid}
-use Rattle.gateway.specs.HeaderBytes.{HeadersNow, headersNow, headersInFile, headerState, noHeaders, headersByte, headersClose}
-use Rattle.gateway.specs.Printing.{Wrote, PrintedNow, PrintedFile}
-use Rattle.gateway.specs.declared.headers.Headers.{Headers}
+use Rattle.text.specs.declared.line.Reader.{Reader}
+use Rattle.text.specs.declared.line.LineRead.{LineRead}
+use Rattle.text.proofs.Feeding.{fed-on}
+use Rattle.text.proofs.Files.{line-on, mapInFile, fed-map}
+use Rattle.text.proofs.Judging.{over-open, over-ends, over-stays, over-last}
+use Rattle.text.proofs.Puts.{put-no-byte, put-then, put-long, put-place}
+use Rattle.answers.specs.Said.{PutLine}
+use Rattle.answers.specs.HeaderLines.{answerSaid}
+use Rattle.answers.specs.Counts.{countedBy}
+use Rattle.gateway.specs.HeaderBytes.{Answered, answered, flawHere, headerAt, judgeHeader, headersInFile, headersStep, headersFed, headersEnd, Wrote, Printed, HeadersTook, HeadersPiece, HeadersEnd}
+use Rattle.answers.specs.declared.answer.HeaderFlaw.{HeaderFlaw}
+use Rattle.answers.specs.declared.count.HeadersSoFar.{HeadersSoFar}
 use Rattle.gateway.specs.declared.headers.HeadersFile.{HeadersFile}
-use Rattle.gateway.proofs.Files.{mapInFile, step-map}
+use Rattle.gateway.specs.declared.headers.Progress.{Progress}
 
 -- ---- bytes put from a place on, none left out
 module _ {out : List ℕ} {at : ℕ} where
-  pub wrote-none : Wrote out at [] out at
-  wrote-none = record { place = omega arith; bytes = sym (append-nil (take at out)); long = refl }
+  pub wrote-none : at ≤ length out → Wrote out at [] out at
+  wrote-none within = record { put = put-no-byte; fits = omega arith }
 
-  pub put-wrote : {bs after : List ℕ} {next : ℕ} → Put out at bs after next → at + length bs ≤ length out → Wrote out at bs after next
-  put-wrote {bs} {after} {next} put fits =
-      let place : next ≡ at + length bs = put-place put fits in
-      let within : at ≤ length out = omega arith in
-      let size : length (take at out ++ bs) ≡ next = rw (length-append, length-take-le at out within) (sym place) in
-      record { place = place; bytes = ap (take next) (put-fits put fits) ∙ take-at (take at out ++ bs) (drop (at + length bs) out) next size; long = put-long put }
+  -- a line, where there is room for one
+  pub line-wrote : {bs after : List ℕ} {next : ℕ} → PutLine out at bs after next → at + 64 ≤ length out → Wrote out at bs after next
+  line-wrote line room = record { put = line .put; fits = omega (arith, line .short) }
 
   pub wrote-then : {xs mid : List ℕ} {p : ℕ} {ys after : List ℕ} {q : ℕ} → Wrote out at xs mid p → Wrote mid p ys after q → Wrote out at (xs ++ ys) after q
   wrote-then {xs} {mid} {p} {ys} {after} {q} first second =
-      let place : q ≡ at + length (xs ++ ys) = omega (arith, first .place, second .place, length-append xs ys) in
+      let place = put-place (first .put) (first .fits) in
+      let long = put-long (first .put) in
+      record { put = put-then (first .put) (second .put); fits = omega (arith, second .fits, length-append xs ys) }
+
+  -- the next place lies within the run, and the run keeps its length
+  pub wrote-within : {bs after : List ℕ} {next : ℕ} → Wrote out at bs after next → next ≤ length out
+  wrote-within wrote = omega (arith, put-place (wrote .put) (wrote .fits), wrote .fits)
+
+  pub wrote-long : {bs after : List ℕ} {next : ℕ} → Wrote out at bs after next → length after ≡ length out
+  wrote-long wrote = put-long (wrote .put)
+
+-- ---- bytes to the end of the present line
+-- nothing is printed
+printed-none : {s : InFile (Over Answered)} {f : HeadersFile} {header out : List ℕ} {at : ℕ} → headersInFile f header [] ≡ s → at ≤ length out
+    → Printed s f header out at out at
+printed-none {s} {f} {header} {out} {at} is within =
+    let none : s .at .own .said ≡ [] = sym (ap (λ r. r .at .own .said) is) in
+    record { reads = ap (headersInFile f header) none ∙ is; prints = rw none (wrote-none within) }
+
+module _ (R : Rules) (T : List ℕ) (f : HeadersFile) (bytes header out : List ℕ) (at : ℕ) {read : LineRead} {left : List ℕ} (took : TookLine 0 (f .reader) bytes header read left) where
+  pub took-open : read .ended ≡ false → at + 64 ≤ length out
+      → HeadersTook R T f bytes header out at (record { file = record { reader = read .reader; headers = f .headers }; used = read .used; at = at }) left out
+  took-open goes room =
       record {
-        place = place;
-        bytes = second .bytes ∙ ap (λ l. l ++ ys) (first .bytes) ∙ append-assoc (take at out) xs ys;
-        long = second .long ∙ first .long;
+        used = took .used;
+        printed = printed-none (over-open headerAt (judgeHeader R T) (answered (f .headers) []) (f .reader) bytes header took goes) (omega arith);
       }
 
--- ---- a line's end
-pub close-printed : (R : Rules) (T : List ℕ) (h : Headers) (header : List ℕ) {row : Row} {run cleared out after : List ℕ} {at next : ℕ}
-    → row ≡ rowNext (h .row) → run ≡ keptAt (h .row) 0 header → cleared ≡ replicate (length run) 0
-    → PutLine out at (cellsSaid R T (row .good) (row .cells) run) after next → at + 64 ≤ length out
-    → PrintedNow (headersClose R T (headersNow h header [])) (headerState false fresh) cleared out at after next
-unfolding headersClose
-close-printed R T h header {row} {run} {cleared} {out} {after} {at} {next} is kept zeroed line room =
-    let wrote : Wrote out at (cellsSaid R T (row .good) (row .cells) run) after next = put-wrote (line .put) (omega (arith, line .short)) in
-    record { reads = rw (zeroed, kept); prints = rw (is, kept) at wrote }
+  pub took-ends : read .ended ≡ true → at + 64 ≤ length out → {flaw : HeaderFlaw} {after : List ℕ} {next : ℕ} {start : Reader} {headers : HeadersSoFar}
+      → flaw ≡ flawHere R (read .reader .line) → PutLine out at (answerSaid R T flaw left) after next → start ≡ noBytes → headers ≡ countedBy (f .headers) flaw
+      → HeadersTook R T f bytes header out at (record { file = record { reader = start; headers = headers }; used = read .used; at = next }) zeros after
+  took-ends ends room {flaw} {after} {next} {start} {headers} why line begins counts =
+      record { used = took .used; printed = subst (λ s. Printed s (record { reader = start; headers = headers }) zeros out at after next) is printed }
+    where
+      -- the state after the line's end
+      anewHere : HeaderFlaw → InFile (Over Answered)
+      anewHere g = inFile false (over (lineNow noLine zeros) (answered (countedBy (f .headers) g) (answerSaid R T g left)))
 
--- ---- one byte of the file
--- nothing is printed
-pub printed-none : {s : InFile HeadersNow} {f : HeadersFile} {header out : List ℕ} {at : ℕ} → headersInFile f header [] ≡ s → PrintedFile s f header out at out at
-printed-none {s} {f} {header} {out} {at} is =
-    let none : s .at .said ≡ [] = sym (ap (λ r. r .at .said) is) in
-    record { reads = sym is ∙ ap (headersInFile f header) (sym none); prints = rw none wrote-none }
+      is : anewHere flaw ≡ headersFed R T f header (take (read .used) bytes)
+      is = ap anewHere why ∙ over-ends headerAt (judgeHeader R T) (answered (f .headers) []) (f .reader) bytes header took ends
 
--- a line ends
-pub printed-close : {s : InFile HeadersNow} {x : HeadersNow} {f : HeadersFile} {header out after : List ℕ} {at next : ℕ} → s ≡ inFile false x
-    → PrintedNow x (headerState false fresh) header out at after next → f ≡ noHeaders → PrintedFile s f header out at after next
-printed-close {s} {x} {f} {header} {out} {after} {at} {next} is printed anew =
-    record { reads = rw (is, anew) (ap (inFile false) (printed .reads)); prints = rw is (printed .prints) }
+      printed : Printed (anewHere flaw) (record { reader = start; headers = headers }) zeros out at after next
+      printed = record { reads = rw (begins, counts); prints = line-wrote line room }
 
--- ---- one byte more
+-- ---- a piece, line by line
 -- with p printed before
-abbrev prefixed : List ℕ → HeadersNow → HeadersNow
-prefixed p x = headersNow (x .headers) (x .header) (p ++ x .said)
+abbrev pub prefixed : List ℕ → Over Answered → Over Answered
+prefixed p x = over (x .now) (answered (x .own .headers) (p ++ x .own .said))
 
-module _ (R : Rules) (T p : List ℕ) where
-  byte-prefixed : (x : HeadersNow) (b : ℕ) → headersByte (prefixed p x) b ≡ prefixed p (headersByte x b)
-  unfolding headersByte
-  byte-prefixed x b = refl
+pub fed-prefixed : (R : Rules) (T p : List ℕ) (s : InFile (Over Answered)) (bs : List ℕ)
+    → fed (headersStep R T) (mapInFile (prefixed p) s) bs ≡ mapInFile (prefixed p) (fed (headersStep R T) s bs)
+fed-prefixed R T p s bs = fed-map (overByte headerAt) (overClose headerAt (judgeHeader R T)) (prefixed p) (λ x b. refl) (λ x. rw (append-assoc p (x .own .said))) s bs
 
-  close-prefixed : (x : HeadersNow) → headersClose R T (prefixed p x) ≡ prefixed p (headersClose R T x)
-  unfolding headersClose
-  close-prefixed x = rw (append-assoc p (x .said))
+-- i bytes of a piece have been read
+pub record Going (R : Rules) (T : List ℕ) (f : HeadersFile) (bytes header out : List ℕ) (present : HeadersFile) (left now : List ℕ) (place i : ℕ) : Type 0 where
+  pub within : i ≤ length bytes
+  pub printed : Printed (headersFed R T f header (take i bytes)) present left out 0 now place
+  pub room : place + 64 ≤ length out
 
-  step-prefixed : (s : InFile HeadersNow) (b : ℕ) → step headersByte (headersClose R T) (mapInFile (prefixed p) s) b ≡ mapInFile (prefixed p) (step headersByte (headersClose R T) s b)
-  step-prefixed = step-map headersByte (headersClose R T) (prefixed p) byte-prefixed close-prefixed
+module _ (R : Rules) (T : List ℕ) (f : HeadersFile) (bytes header out : List ℕ) where
+  pub going-start : 64 ≤ length out → Going R T f bytes header out f header out 0 0
+  going-start room = record { within = omega arith; printed = printed-none refl (omega arith); room = omega arith }
 
-printed-more : (R : Rules) (T : List ℕ) (b : ℕ) {s : InFile HeadersNow} {f f' : HeadersFile} {header header' out mid after : List ℕ} {at p q : ℕ}
-    → PrintedFile s f header out at mid p → PrintedFile (step headersByte (headersClose R T) (headersInFile f header []) b) f' header' mid p after q
-    → PrintedFile (step headersByte (headersClose R T) s b) f' header' out at after q
-printed-more R T b {s} {f} {f'} {header} {header'} {out} {mid} {after} {at} {p} {q} first second =
-    let w = s .at .said in
-    let one = step headersByte (headersClose R T) (headersInFile f header []) b in
-    let same : headersInFile f header w ≡ mapInFile (prefixed w) (headersInFile f header []) = ap (headersInFile f header) (sym (append-nil w)) in
-    let is : step headersByte (headersClose R T) s b ≡ mapInFile (prefixed w) one
-    = ap (λ r. step headersByte (headersClose R T) r b) (first .reads ∙ same) ∙ step-prefixed R T w (headersInFile f header []) b in
-    record {
-      reads = rw is (ap (mapInFile (prefixed w)) (second .reads));
-      prints = rw is (wrote-then (first .prints) (second .prints));
-    }
+  -- the bytes of one line more
+  pub printed-more : (i used : ℕ) {present next : HeadersFile} {left left' mid after : List ℕ} {p q : ℕ}
+      → Printed (headersFed R T f header (take i bytes)) present left out 0 mid p
+      → Printed (headersFed R T present left (take used (take (length bytes - i) (drop i bytes)))) next left' mid p after q
+      → Printed (headersFed R T f header (take (i + used) bytes)) next left' out 0 after q
+  printed-more i used {present} {next} {left} {left'} {mid} {after} {p} {q} first second =
+      let w = headersFed R T f header (take i bytes) .at .own .said in
+      let part = take used (take (length bytes - i) (drop i bytes)) in
+      let t = headersFed R T present left part in
+      let same : headersInFile present left w ≡ mapInFile (prefixed w) (headersInFile present left []) = ap (headersInFile present left) (sym (append-nil w)) in
+      let is : headersFed R T f header (take (i + used) bytes) ≡ mapInFile (prefixed w) t
+      = fed-on (headersStep R T) (headersInFile f header []) bytes i used
+      ∙ ap (λ s. fed (headersStep R T) s part) (sym (first .reads) ∙ same)
+      ∙ fed-prefixed R T w (headersInFile present left []) part in
+      subst (λ s. Printed s next left' out 0 after q) (sym is)
+      (record { reads = ap (mapInFile (prefixed w)) (second .reads); prints = wrote-then (first .prints) (second .prints) })
 
--- the same of the bytes of a run
-pub fed-printed : (R : Rules) (T bytes : List ℕ) (i : ℕ) → i < length bytes → (s : InFile HeadersNow) {f f' : HeadersFile} {header header' out mid after : List ℕ} {at p q : ℕ}
-    → PrintedFile (fed (step headersByte (headersClose R T)) s (take i bytes)) f header out at mid p
-    → PrintedFile (step headersByte (headersClose R T) (headersInFile f header []) (getD bytes i 0)) f' header' mid p after q
-    → PrintedFile (fed (step headersByte (headersClose R T)) s (take (i + 1) bytes)) f' header' out at after q
-fed-printed R T bytes i lt s first second =
-    rw (fed-more (step headersByte (headersClose R T)) s bytes i lt) (printed-more R T (getD bytes i 0) first second)
+  module _ {present : HeadersFile} {left now : List ℕ} {place i : ℕ} (going : Going R T f bytes header out present left now place i) where
+    -- all bytes have been read
+    pub piece-all : length bytes ≤ i → HeadersPiece R T f bytes header out (record { file = present; used = i; at = place }) left now
+    piece-all all = record { most = going .within; some = λ some. omega arith; printed = going .printed }
+
+    module _ (more : i < length bytes) {r : Progress} {left' after : List ℕ} (took : HeadersTook R T present (take (length bytes - i) (drop i bytes)) left now place r left' after) where
+      pub line-taken : (0 < r .used) × (i + r .used ≤ length bytes)
+      line-taken = line-on (present .reader .cr) bytes i more (took .used)
+
+      -- there is no room for another line
+      pub piece-full : HeadersPiece R T f bytes header out (record { file = r .file; used = i + r .used; at = r .at }) left' after
+      piece-full =
+          record {
+            most = line-taken .1;
+            some = λ some. omega (arith, line-taken .0);
+            printed = printed-more i (r .used) (going .printed) (took .printed);
+          }
+
+      -- there is
+      pub going-more : r .at + 64 ≤ length out → Going R T f bytes header out (r .file) left' after (r .at) (i + r .used)
+      going-more room = record { within = line-taken .1; printed = printed-more i (r .used) (going .printed) (took .printed); room = room }
+
+-- ---- the file's end
+module _ (R : Rules) (T : List ℕ) (f : HeadersFile) (header out : List ℕ) {read : LineRead} {left : List ℕ} (took : TookLast 0 (f .reader) header read left) (room : 64 ≤ length out) where
+  pub end-stays : read .ended ≡ false → HeadersEnd R T f header out (record { headers = f .headers; at = 0 }) out
+  end-stays none =
+      let is = ap (λ x. x .own) (over-stays headerAt (judgeHeader R T) (answered (f .headers) []) (f .reader) header took none) in
+      record { headers = ap (λ y. y .headers) is; prints = rw (← ap (λ y. y .said) is) (wrote-none (omega arith)) }
+
+  pub end-answered : read .ended ≡ true → {flaw : HeaderFlaw} {after : List ℕ} {next : ℕ} {headers : HeadersSoFar}
+      → flaw ≡ flawHere R (read .reader .line) → PutLine out 0 (answerSaid R T flaw left) after next → headers ≡ countedBy (f .headers) flaw
+      → HeadersEnd R T f header out (record { headers = headers; at = next }) after
+  end-answered some {flaw} {after} {next} {headers} why line counts =
+      let is : answered (countedBy (f .headers) flaw) (answerSaid R T flaw left) ≡ headersEnd R T (headersInFile f header [])
+      = ap (λ g. answered (countedBy (f .headers) g) (answerSaid R T g left)) why
+      ∙ ap (λ x. x .own) (over-last headerAt (judgeHeader R T) (answered (f .headers) []) (f .reader) header took some) in
+      record {
+        headers = counts ∙ ap (λ y. y .headers) is;
+        prints = subst (λ y. Wrote out 0 (y .said) after next) is (line-wrote line (omega arith));
+      }

@@ -1,27 +1,193 @@
--- Laws of what the functions that call the system leave (`specs/Serving.antt`).
+-- Laws of what the functions that read, hand on and write leave (`specs/Serving.antt`).
+--     readied-bytes                                           what was read
+--     ended-are, ended-missing                                the rules file has ended
+--     RulesOn, on-start, on-more, on-flawed, on-ended         its pieces, one after the other
+--     said-front, end-front, quiet-fed, quiet-end             what was printed before does not matter
+--     TurnOn, turn-start, turn-more, turn-all, turn-some      the bytes of one read
+--     HeadersOn, headers-start, headers-more, headers-ended   the headers file's pieces, one after the other
 -- Assumes nothing.
 use Prim.Native.Nat.{ℕ, _+_, _-_, _≤_, _<_}
-use mathlib.Core.List.{List}
-use mathlib.Core.Path.{_≡_, subst}
+use mathlib.Core.Bool.{Bool, true, false}
+use mathlib.Core.List.{List, [], _∷_, _++_, flatten, append-assoc, append-nil}
+use mathlib.Core.Path.{_≡_, refl, sym, ap, _∙_, subst}
 use native.Mathlib.Omega.{arith}
-use lib.ListN.{length, take, drop, length-take, length-drop}
-use Rattle.gateway.specs.Serving.{Roomy, Readied}
-use Rattle.gateway.specs.Printing.{Taken}
-use Rattle.gateway.specs.declared.output.Room.{Room}
-use Rattle.gateway.specs.declared.output.Room.the-variants.{At}
+use borrow.Author.Tests.{eq-eqb, ne-eqb}
+use lib.ListN.{length, take, drop, length-drop}
+use lib.Seq.{take-all}
+use Rattle.ranges.specs.Numbers.{pick}
+use Rattle.ranges.proofs.Numbers.{true-not-false}
+use Rattle.lists.specs.Rules.{Rules}
+use Rattle.text.specs.Cells.{fed}
+use Rattle.text.specs.Files.{InFile, inFile, finish, lastLine}
+use Rattle.text.specs.Judging.{judged, Over, over, overByte, overClose, overBegun}
+use Rattle.text.proofs.Feeding.{rest-is, fed-append, fed-on}
+use Rattle.text.proofs.Files.{mapInFile, fed-map, finish-map}
+use Rattle.rulesfile.specs.Flaws.{flawless}
+use Rattle.flaws.specs.Numbered.{flawNumber}
+use Rattle.rulesfile.specs.Bytes.{noRules, rulesInFile, rulesStep, rulesEnd, rulesPieces}
+use Rattle.rulesfile.specs.declared.file.RulesSoFar.{RulesSoFar}
+use Rattle.rulesfile.specs.declared.file.RulesFile.{RulesFile}
+use Rattle.gateway.specs.HeaderBytes.{noHeaders, Answered, answered, headerAt, judgeHeader, headersInFile, headersStep, headersFed, headersEnd, HeadersPiece}
+use Rattle.gateway.specs.Serving.{Readied, RulesEnded, RulesFrom, RulesReadFrom, quiet, TurnTook, HeadersEnded, headersAfter, HeadersFrom, HeadersSome, HeadersReadFrom}
 use Rattle.gateway.specs.declared.input.Got.{Got}
 use Rattle.gateway.specs.declared.input.Got.the-variants.{Bytes}
-
-pub roomy-at : {r : Room} {k n : ℕ} → r ≡ At k → Roomy r n → k + 64 ≤ n
-roomy-at {r} {k} {n} is roomy = subst (λ x. Roomy x n) is roomy
+use Rattle.gateway.specs.declared.read_rules.RulesRead.{RulesRead}
+use Rattle.gateway.specs.declared.read_rules.RulesRead.the-variants.{Are as RulesAre, Missing, Failed as NoRules}
+use Rattle.answers.specs.declared.count.HeadersSoFar.{HeadersSoFar}
+use Rattle.gateway.specs.declared.headers.HeadersFile.{HeadersFile}
+use Rattle.gateway.specs.declared.headers.Progress.{Progress}
+use Rattle.gateway.specs.declared.answer_headers.Turn.{Turn}
+use Rattle.gateway.specs.declared.answer_headers.HeadersRead.{HeadersRead}
+use Rattle.gateway.specs.declared.answer_headers.HeadersRead.the-variants.{Are as HeadersAre, Stopped, Failed as NoHeaders}
+use Rattle.gateway.proofs.Printing.{prefixed, fed-prefixed}
 
 pub readied-bytes : {r : Got} {k n : ℕ} → r ≡ Bytes k → Readied r n → k ≤ n
 readied-bytes {r} {k} {n} is readied = subst (λ x. Readied x n) is readied
 
--- of the bytes from a place on, one at least is taken
-pub taken-on : (bytes : List ℕ) (from : ℕ) {used : ℕ} → from < length bytes → Taken used (length (take (length bytes - from) (drop from bytes)))
-    → (0 < used) × (from + used ≤ length bytes)
-taken-on bytes from {used} lt taken =
-    let size : length (take (length bytes - from) (drop from bytes)) ≡ length bytes - from = simp (length-take, length-drop) (omega arith) in
-    let some : 0 < length (take (length bytes - from) (drop from bytes)) = omega arith in
-    (taken .some some, omega (arith, taken .most))
+-- ---- the rules file's pieces
+-- those read so far, to which more may come
+pub record RulesOn (list : List ℕ) (file : RulesFile) (left : List ℕ) : Type 0 where
+  pub pieces : List (List ℕ)
+  pub long : length left ≡ length list
+  pub on : (qs : List (List ℕ)) → rulesPieces (rulesInFile noRules list) (pieces ++ qs) ≡ rulesPieces (rulesInFile file left) qs
+
+module _ (list : List ℕ) where
+  pub on-start : {file : RulesFile} → file ≡ noRules → RulesOn list file list
+  on-start is = record { pieces = []; long = refl; on = λ qs. rw is }
+
+  module _ {file : RulesFile} {left : List ℕ} (before : RulesOn list file left) where
+    -- the file's end
+    pub on-ended : (r : RulesRead) (after : List ℕ) → RulesEnded file left r after → RulesReadFrom list r after
+    on-ended (RulesAre rules) after ends = record { pieces = before .pieces ++ []; are = ends ∙ sym (before .on []) }
+    on-ended (Missing rules) after ends = record { pieces = before .pieces ++ []; are = ends ∙ sym (before .on []) }
+    on-ended NoRules after ends = tt
+
+    module _ (p : List ℕ) {next : RulesFile} {after : List ℕ} (read : rulesInFile next after ≡ fed rulesStep (rulesInFile file left) p) where
+      -- a piece without flaw
+      pub on-more : flawNumber (next .rules .flaw) ≡ 0 → length after ≡ length left → RulesOn list next after
+      on-more fine kept =
+          record {
+            pieces = before .pieces ++ (p ∷ []);
+            long = kept ∙ before .long;
+            on = λ qs.
+                let same : flawless (fed rulesStep (rulesInFile file left) p .at .own .flaw) ≡ true = ap (λ s. flawless (s .at .own .flaw)) (sym read) ∙ eq-eqb (flawNumber (next .rules .flaw)) 0 fine in
+                let rest : rulesPieces (rulesInFile file left) (p ∷ qs) ≡ rulesPieces (rulesInFile next after) qs
+                = ap (λ t. pick t (rulesPieces (fed rulesStep (rulesInFile file left) p) qs) (rulesEnd (fed rulesStep (rulesInFile file left) p))) same ∙ ap (λ s. rulesPieces s qs) (sym read) in
+                ap (rulesPieces (rulesInFile noRules list)) (append-assoc (before .pieces) (p ∷ []) qs) ∙ before .on (p ∷ qs) ∙ rest;
+          }
+
+      -- a piece with one: nothing more is read
+      pub on-flawed : (flawNumber (next .rules .flaw) ≡ 0 → ⊥) → {rules : RulesSoFar} {last : List ℕ} → judged rules last ≡ rulesEnd (rulesInFile next after)
+          → RulesFrom list rules last
+      on-flawed some {rules} {last} ends =
+          let same : flawless (fed rulesStep (rulesInFile file left) p .at .own .flaw) ≡ false = ap (λ s. flawless (s .at .own .flaw)) (sym read) ∙ ne-eqb (flawNumber (next .rules .flaw)) 0 some in
+          let stop : rulesPieces (rulesInFile file left) (p ∷ []) ≡ rulesEnd (rulesInFile next after)
+          = ap (λ t. pick t (rulesPieces (fed rulesStep (rulesInFile file left) p) []) (rulesEnd (fed rulesStep (rulesInFile file left) p))) same ∙ ap rulesEnd (sym read) in
+          record { pieces = before .pieces ++ (p ∷ []); are = ends ∙ sym (before .on (p ∷ []) ∙ stop) }
+
+-- a file that can't be opened comes from no piece
+pub missing-none : (list : List ℕ) {file : RulesFile} {rules : RulesSoFar} {after : List ℕ} → file ≡ noRules → judged rules after ≡ rulesEnd (rulesInFile file list) → RulesFrom list rules after
+missing-none list is ends = record { pieces = []; are = ends ∙ ap (λ f. rulesEnd (rulesInFile f list)) is }
+
+-- ---- what was printed before does not matter
+-- a state is its quiet one with that in front
+pub said-front : (s : InFile (Over Answered)) → s ≡ mapInFile (prefixed (s .at .own .said)) (quiet s)
+said-front s = ap (λ w. inFile (s .cr) (over (s .at .now) (answered (s .at .own .headers) w))) (sym (append-nil (s .at .own .said)))
+
+module _ (R : Rules) (T : List ℕ) where
+  pub quiet-fed : (s : InFile (Over Answered)) (bs : List ℕ) → quiet (fed (headersStep R T) s bs) ≡ quiet (fed (headersStep R T) (quiet s) bs)
+  quiet-fed s bs =
+      ap (λ r. quiet (fed (headersStep R T) r bs)) (said-front s)
+      ∙ ap quiet (fed-prefixed R T (s .at .own .said) (quiet s) bs)
+
+  pub end-front : (w : List ℕ) (s : InFile (Over Answered)) → headersEnd R T (mapInFile (prefixed w) s) ≡ prefixed w (over (s .at .now) (headersEnd R T s)) .own
+  end-front w s =
+      ap (λ x. x .own)
+      (finish-map (overByte headerAt) (overClose headerAt (judgeHeader R T)) (prefixed w) (λ x b. refl) (λ x. rw (append-assoc w (x .own .said))) overBegun (λ x. refl) s)
+
+  pub quiet-end : (s : InFile (Over Answered)) → headersEnd R T s .headers ≡ headersEnd R T (quiet s) .headers
+  quiet-end s = ap (λ r. headersEnd R T r .headers) (said-front s) ∙ ap (λ y. y .headers) (end-front (s .at .own .said) (quiet s))
+
+-- ---- the bytes of one read
+pub record TurnOn (R : Rules) (T : List ℕ) (f : HeadersFile) (bytes header : List ℕ) (n : ℕ) (present : HeadersFile) (left out : List ℕ) (from : ℕ) : Type 0 where
+  pub within : from ≤ length bytes
+  pub long : length out ≡ n
+  pub state : headersInFile present left [] ≡ quiet (headersFed R T f header (take from bytes))
+
+module _ (R : Rules) (T : List ℕ) (f : HeadersFile) (bytes header : List ℕ) where
+  pub turn-start : (out : List ℕ) → TurnOn R T f bytes header (length out) f header out 0
+  turn-start out = record { within = omega arith; long = refl; state = refl }
+
+  module _ {n : ℕ} {present : HeadersFile} {left out : List ℕ} {from : ℕ} (before : TurnOn R T f bytes header n present left out from) where
+    pub turn-all : length bytes ≤ from → TurnTook R T f bytes header (record { file = present; going = true }) left
+    turn-all all = record { used = from; state = before .state; all = λ goes. omega (arith, before .within) }
+
+    module _ (more : from < length bytes) {r : Progress} {left' after : List ℕ} (took : HeadersPiece R T present (take (length bytes - from) (drop from bytes)) left out r left' after) where
+      pub piece-taken : (0 < r .used) × (from + r .used ≤ length bytes)
+      piece-taken =
+          let size : length (take (length bytes - from) (drop from bytes)) ≡ length bytes - from = ap length (rest-is bytes from) ∙ length-drop from bytes in
+          let some : 0 < length (take (length bytes - from) (drop from bytes)) = omega arith in
+          (took .some some, omega (arith, took .most))
+
+      state-then : headersInFile (r .file) left' [] ≡ quiet (headersFed R T f header (take (from + r .used) bytes))
+      state-then =
+          let part = take (r .used) (take (length bytes - from) (drop from bytes)) in
+          ap quiet (took .printed .reads)
+          ∙ ap (λ s. quiet (fed (headersStep R T) s part)) (before .state)
+          ∙ sym (quiet-fed R T (headersFed R T f header (take from bytes)) part)
+          ∙ ap quiet (sym (fed-on (headersStep R T) (headersInFile f header []) bytes from (r .used)))
+
+      pub turn-more : length after ≡ length out → TurnOn R T f bytes header n (r .file) left' after (from + r .used)
+      turn-more kept = record { within = piece-taken .1; long = kept ∙ before .long; state = state-then }
+
+      -- what they print can't be written
+      pub turn-some : TurnTook R T f bytes header (record { file = r .file; going = false }) left'
+      turn-some = record { used = from + r .used; state = state-then; all = λ goes. absurd (true-not-false goes refl) }
+
+-- ---- the headers file's pieces
+flatten-more : (ps : List (List ℕ)) (p : List ℕ) → flatten ps ++ p ≡ flatten (ps ++ (p ∷ []))
+unfolding flatten
+flatten-more [] p = sym (append-nil p)
+flatten-more (q ∷ ps) p = append-assoc q (flatten ps) p ∙ ap (λ r. q ++ r) (flatten-more ps p)
+
+pub record HeadersOn (R : Rules) (T header : List ℕ) (n : ℕ) (file : HeadersFile) (left out : List ℕ) : Type 0 where
+  pub pieces : List (List ℕ)
+  pub long : length out ≡ n
+  pub state : headersInFile file left [] ≡ quiet (headersAfter R T header pieces)
+
+module _ (R : Rules) (T header : List ℕ) where
+  pub headers-start : {file : HeadersFile} (out : List ℕ) → file ≡ noHeaders → HeadersOn R T header (length out) file header out
+  unfolding flatten
+  headers-start out is = record { pieces = []; long = refl; state = rw is }
+
+  -- a file that can't be opened comes from no piece
+  pub headers-none : {file : HeadersFile} → file ≡ noHeaders → HeadersFrom R T header (file .headers)
+  unfolding flatten finish lastLine
+  headers-none is = record { pieces = []; are = ap (λ f. f .headers) is }
+
+  module _ {n : ℕ} {file : HeadersFile} {left out : List ℕ} (before : HeadersOn R T header n file left out) where
+    pub headers-ended : (r : HeadersRead) → HeadersEnded R T file left r → HeadersReadFrom R T header r
+    headers-ended (HeadersAre headers) ends =
+        record {
+          pieces = before .pieces;
+          are = ends ∙ ap (λ s. headersEnd R T s .headers) (before .state) ∙ sym (quiet-end R T (headersAfter R T header (before .pieces)));
+        }
+    headers-ended (Stopped headers) ends = record { pieces = before .pieces; are = ends ∙ ap (λ s. s .at .own .headers) (before .state) }
+    headers-ended NoHeaders ends = tt
+
+    pub headers-more : (p : List ℕ) {r : Turn} {left' after : List ℕ} → TurnTook R T file p left r left' → r .going ≡ true → length after ≡ length out
+        → HeadersOn R T header n (r .file) left' after
+    unfolding flatten
+    headers-more p {r} {left'} {after} took goes kept =
+        let all : take (took .used) p ≡ p = take-all (took .used) p (omega (arith, took .all goes)) in
+        record {
+          pieces = before .pieces ++ (p ∷ []);
+          long = kept ∙ before .long;
+          state =
+              took .state
+              ∙ ap (λ bs. quiet (headersFed R T file left bs)) all
+              ∙ ap (λ s. quiet (fed (headersStep R T) s p)) (before .state)
+              ∙ sym (quiet-fed R T (headersAfter R T header (before .pieces)) p)
+              ∙ ap quiet (sym (fed-append (headersStep R T) (headersInFile noHeaders header []) (flatten (before .pieces)) p))
+              ∙ ap (λ bs. quiet (fed (headersStep R T) (headersInFile noHeaders header []) bs)) (flatten-more (before .pieces) p);
+        }

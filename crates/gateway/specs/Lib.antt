@@ -1,12 +1,5 @@
--- To be believed: what the contracts of public functions and the theorems say.
-pub mod Files
-pub mod RuleLines
-pub mod HeaderLines
-pub mod Said
+-- To be believed: what the theorems say.
 pub mod Program
 -- Scaffolding: what the contracts of private functions say.
-pub mod RuleBytes
 pub mod HeaderBytes
-pub mod Printing
-pub mod Ready
 pub mod Serving

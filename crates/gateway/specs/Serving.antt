@@ -1,19 +1,84 @@
 -- Scaffolding: only contracts of private functions cite this; nothing here has to be believed.
--- What the functions that call the system leave.
+-- What the functions that read, hand on and write leave. What a read brings is the system's: so their contracts say that there are
+-- pieces, one after the other, from which what they return comes.
 -- Assumes nothing: these are definitions.
-use Prim.Native.Nat.{ℕ, _+_, _≤_}
-use Rattle.gateway.specs.declared.output.Room.{Room}
-use Rattle.gateway.specs.declared.output.Room.the-variants.{At, Failed}
+use Prim.Native.Nat.{ℕ, _≤_}
+use mathlib.Core.Bool.{true}
+use mathlib.Core.List.{List, [], _++_, flatten}
+use mathlib.Core.Path.{_≡_}
+use lib.ListN.{length, take}
+use Rattle.lists.specs.Rules.{Rules}
+use Rattle.text.specs.Cells.{fed}
+use Rattle.text.specs.Files.{InFile, inFile}
+use Rattle.text.specs.Judging.{judged, Over, over}
+use Rattle.rulesfile.specs.Bytes.{noRules, rulesInFile, rulesEnd, rulesPieces}
+use Rattle.rulesfile.specs.declared.file.RulesSoFar.{RulesSoFar}
+use Rattle.rulesfile.specs.declared.file.RulesFile.{RulesFile}
+use Rattle.gateway.specs.HeaderBytes.{noHeaders, Answered, answered, headersInFile, headersStep, headersFed, headersEnd}
 use Rattle.gateway.specs.declared.input.Got.{Got}
-use Rattle.gateway.specs.declared.input.Got.the-variants.{Bytes, End, Failed as Broken}
-
--- at the place there is room for a line, in a run of n bytes
-abbrev pub Roomy : Room → ℕ → Type 0
-Roomy (At k) n = k + 64 ≤ n
-Roomy Failed n = Unit {0}
+use Rattle.gateway.specs.declared.input.Got.the-variants.{Bytes, End, Folder, Failed}
+use Rattle.gateway.specs.declared.read_rules.RulesRead.{RulesRead}
+use Rattle.gateway.specs.declared.read_rules.RulesRead.the-variants.{Are as RulesAre, Missing, Failed as NoRules}
+use Rattle.answers.specs.declared.count.HeadersSoFar.{HeadersSoFar}
+use Rattle.gateway.specs.declared.headers.HeadersFile.{HeadersFile}
+use Rattle.gateway.specs.declared.answer_headers.Turn.{Turn}
+use Rattle.gateway.specs.declared.answer_headers.HeadersRead.{HeadersRead}
+use Rattle.gateway.specs.declared.answer_headers.HeadersRead.the-variants.{Are as HeadersAre, Stopped, Failed as NoHeaders}
 
 -- what was read lies within n bytes
 abbrev pub Readied : Got → ℕ → Type 0
 Readied (Bytes k) n = k ≤ n
 Readied End n = Unit {0}
-Readied Broken n = Unit {0}
+Readied Folder n = Unit {0}
+Readied Failed n = Unit {0}
+
+-- ---- the rules
+-- the file has ended
+abbrev pub RulesEnded : RulesFile → List ℕ → RulesRead → List ℕ → Type 0
+RulesEnded f list (RulesAre rules) after = judged rules after ≡ rulesEnd (rulesInFile f list)
+RulesEnded f list (Missing rules) after = judged rules after ≡ rulesEnd (rulesInFile f list)
+RulesEnded f list NoRules after = Unit {0}
+
+-- pieces have been read to the file's end, or to the first flaw
+pub record RulesFrom (list : List ℕ) (rules : RulesSoFar) (after : List ℕ) : Type 0 where
+  pub pieces : List (List ℕ)
+  pub are : judged rules after ≡ rulesPieces (rulesInFile noRules list) pieces
+
+abbrev pub RulesReadFrom : List ℕ → RulesRead → List ℕ → Type 0
+RulesReadFrom list (RulesAre rules) after = RulesFrom list rules after
+RulesReadFrom list (Missing rules) after = RulesFrom list rules after
+RulesReadFrom list NoRules after = Unit {0}
+
+-- ---- the headers
+-- what has been printed is written, and forgotten
+abbrev pub quiet : InFile (Over Answered) → InFile (Over Answered)
+quiet s = inFile (s .cr) (over (s .at .now) (answered (s .at .own .headers) []))
+
+-- bytes of one read have been answered, all where what they print was written
+pub record TurnTook (R : Rules) (T : List ℕ) (f : HeadersFile) (bytes header : List ℕ) (r : Turn) (left : List ℕ) : Type 0 where
+  pub used : ℕ
+  pub state : headersInFile (r .file) left [] ≡ quiet (headersFed R T f header (take used bytes))
+  pub all : r .going ≡ true → used ≡ length bytes
+
+-- the file has ended, or can't be read further
+abbrev pub HeadersEnded : Rules → List ℕ → HeadersFile → List ℕ → HeadersRead → Type 0
+HeadersEnded R T f header (HeadersAre headers) = headers ≡ headersEnd R T (headersInFile f header []) .headers
+HeadersEnded R T f header (Stopped headers) = headers ≡ f .headers
+HeadersEnded R T f header NoHeaders = Unit {0}
+
+-- the state after pieces
+abbrev pub headersAfter : Rules → List ℕ → List ℕ → List (List ℕ) → InFile (Over Answered)
+headersAfter R T header ps = fed (headersStep R T) (headersInFile noHeaders header []) (flatten ps)
+
+pub record HeadersFrom (R : Rules) (T header : List ℕ) (headers : HeadersSoFar) : Type 0 where
+  pub pieces : List (List ℕ)
+  pub are : headers ≡ headersEnd R T (headersAfter R T header pieces) .headers
+
+pub record HeadersSome (R : Rules) (T header : List ℕ) (headers : HeadersSoFar) : Type 0 where
+  pub pieces : List (List ℕ)
+  pub are : headers ≡ headersAfter R T header pieces .at .own .headers
+
+abbrev pub HeadersReadFrom : Rules → List ℕ → List ℕ → HeadersRead → Type 0
+HeadersReadFrom R T header (HeadersAre headers) = HeadersFrom R T header headers
+HeadersReadFrom R T header (Stopped headers) = HeadersSome R T header headers
+HeadersReadFrom R T header NoHeaders = Unit {0}

@@ -1,4 +1,6 @@
-// A file in: a piece of it is read into a run of bytes.
+// A file in: it is opened, and a piece of it is read into a run of bytes. What goes wrong is said on standard error.
+use flaws::say::put_named;
+use libc::STDIN_FILENO;
 ghost use lib.ListN.{length};
 ghost use Rattle.gateway.specs.Serving.{Readied};
 
@@ -6,19 +8,50 @@ ghost use Rattle.gateway.specs.Serving.{Readied};
 pub enum Got {
     Bytes(usize),
     End,
+    // A folder in place of a file.
+    Folder,
     Failed,
 }
 
-// Reads a piece of a file. A folder in place of a file counts as empty; any other failure is said on standard error.
-pub fn read_some(fd: i32, path: &[u8], bytes: &mut [u8]) -> Got
+// Says on standard error what the last call to the system found wrong with a file.
+pub(crate) fn say_failed(path: &[u8]) {
+    let mut text = [0u8; 8192];
+    let n = put_named(b"gateway", path, &mut text, 0);
+    say_first(&text, n);
+}
+
+// Says it of the first bytes of a run, as many as stand before a place.
+fn say_first(text: &[u8], n: usize) {
+    if text.len() < n {
+        return;
+    }
+    os::fail(&text[..n]);
+}
+
+// Opens a file to read, and answers its descriptor, or a number below 0; - names standard input.
+pub(crate) fn open_input(path: &[u8]) -> i32 {
+    if check::same(path, b"-") {
+        return STDIN_FILENO;
+    }
+    let fd = os::open_read(path);
+    if fd < 0 {
+        say_failed(path);
+    }
+    fd
+}
+
+// Reads a piece of a file: how many bytes came, or its end, or that it is a folder, or that it can't be read, and the
+// last two are said on standard error.
+pub(crate) fn read_some(fd: i32, path: &[u8], bytes: &mut [u8]) -> Got
     ensures { λ r. ⌜ Readied r (length (now (bytes .exit))) ⌝ }
 {
     let got = libc::read(fd, bytes);
     if got < 0 {
-        if os::errno() == libc::EISDIR {
-            return Got::End;
+        let error = os::errno();
+        say_failed(path);
+        if error == libc::EISDIR {
+            return Got::Folder;
         }
-        os::fail(path);
         return Got::Failed;
     }
     if got == 0 {

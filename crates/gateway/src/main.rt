@@ -2,26 +2,25 @@
 // lines, looks each header up and prints the number of the first rule that fits it and how many range tests that took.
 //
 //     gateway                     reads rules.csv and headers.csv of the current folder
-//     gateway RULES HEADERS       reads the files named
+//     gateway RULES HEADERS       reads the files named; - names standard input, once
 //     gateway --help              says this
 //
-// A file is read in pieces, cut anywhere, through a state held by value (`rules`, `headers`): nothing of a file is kept but
-// the list, of at most `MOST_NUMBERS`, and that state. The list is checked and its table is built once (`ready`), then
-// each header line is one lookup (`answer`). Lines are put into a run of bytes (`say`) and written when it is full.
+// Standard output has what 01 fixes. What is wrong with a file, and where, is one line on standard error.
 //
-// What is proved. Each function of the files named so far meets its contract on slices; `proofs/Theorems.antt` puts them
-// together: what is printed is `programOf` of the two files' bytes, however they are cut into pieces. What opens, reads and
-// writes files (`input`, `output`, `rules_source`, `headers_source`, `serve` and this one) is proved to be safe and to
-// end; that it hands on the bytes read and writes the bytes put is tested.
-mod answer;
+// A file is read in pieces, cut anywhere, through a state held by value: nothing of a file is kept but the list, of at
+// most `MOST_NUMBERS`, and that state. The rules are read by the crate `rulesfile`; their table is built once, and their
+// refusal or the first line is put by the crate `answers`; then each header line is one lookup (`headers`).
+//
+// What is proved. Each function on slices, of those crates and of `headers`, meets its contract; `proofs/Theorems.antt`
+// puts them together: however the two files are cut into pieces, what is put is `programOf` of their bytes, and what is
+// said of them is their first flaw. What opens, reads and writes (`input`, `output`, `read_rules`, `answer_headers`,
+// `serve` and this one) reads, hands on and writes: docs/PROMISES.md says of it, sentence by sentence, what is proved and
+// what is tested.
+mod answer_headers;
 mod headers;
-mod headers_source;
 mod input;
 mod output;
-mod ready;
-mod rules;
-mod rules_source;
-mod say;
+mod read_rules;
 mod serve;
 
 use libc::STDERR_FILENO;
@@ -62,7 +61,22 @@ fn run_named() {
         os::fail(b"gateway: second argument");
         return;
     }
+    if names_twice(&rules_path[..r], &headers_path[..h]) {
+        io::write_all(
+            STDERR_FILENO,
+            b"gateway: standard input can be named once, for the rules or for the headers\n",
+        );
+        return;
+    }
     run(&rules_path[..r], &headers_path[..h]);
+}
+
+// Says whether two names are both that of standard input.
+fn names_twice(one: &[u8], other: &[u8]) -> bool {
+    if check::same(one, b"-") {
+        return check::same(other, b"-");
+    }
+    false
 }
 
 // Says whether the first argument is --help.
@@ -89,7 +103,7 @@ fn main() {
         if asks_for_help() {
             io::write_all(
                 STDOUT_FILENO,
-                b"usage: gateway [RULES HEADERS]\nReads rules.csv and headers.csv of the current folder, or the two files named, and prints\nrule,tests and for each header line the first rule that fits and the number of range tests.\n",
+                b"usage: gateway [RULES HEADERS]\nReads rules.csv and headers.csv of the current folder, or the two files named (- is standard input), and prints\nrule,tests and for each header line the first rule that fits and the number of range tests.\nWhat is wrong with a file, and where, is said on standard error.\n",
             );
             return;
         }

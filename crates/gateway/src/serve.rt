@@ -1,48 +1,125 @@
 // The whole job on two files: the rules are read and their table is built, then each header is answered.
-use crate::headers_source::answer_all;
-use crate::output::flush;
-use crate::ready::make_table;
-use crate::ready::numbers_in;
-use crate::ready::rules_fault;
-use crate::ready::shape_read;
-use crate::rules_source::RulesRead;
-use crate::rules_source::read_rules;
-use crate::say::put_refused;
+use crate::answer_headers::HeadersRead;
+use crate::answer_headers::answer_headers;
+use crate::output::write_error;
+use crate::output::write_out;
+use crate::read_rules::RulesRead;
+use crate::read_rules::read_rules;
+use answers::complain::put_headers_flaws;
+use answers::count::HeadersSoFar;
+use answers::open::open_rules;
+use flaws::flaw::Flaw;
+use flaws::flaw::flaw_number;
+use flaws::say::put_complaint;
+use rulesfile::file::RulesSoFar;
+use rulesfile::table::rules_length;
+use rulesfile::table::rules_room;
+use rulesfile::table::rules_shape;
 ghost use Prim.Native.Nat.{_≤_};
 ghost use lib.ListN.{length};
-ghost use Rattle.tables.specs.Layout.{mostTable};
 
-// Does 01's job on two files: prints the rules' fault, or the answer to each header.
+// Says on standard error what is wrong with the rules.
+fn say_flaw(flaw: Flaw, path: &[u8], out: &mut [u8]) {
+    let at = put_complaint(flaw, b"gateway", path, out);
+    write_error(out, at);
+}
+
+// Says on standard error which header lines were refused, where any was, for rules of d fields.
+fn say_refused(headers: HeadersSoFar, d: usize, path: &[u8], out: &mut [u8]) {
+    if headers.refused == 0 {
+        return;
+    }
+    let at = put_headers_flaws(headers, d, path, out);
+    write_error(out, at);
+}
+
+// Answers the headers of rules whose table stands, and says on standard error which of them were refused.
+fn serve_headers(
+    rules: RulesSoFar,
+    path: &[u8],
+    bytes: &mut [u8],
+    list: &[u32],
+    table: &[u16],
+    header: &mut [u32; 8],
+    out: &mut [u8],
+)
+    requires { ⌜ 64 ≤ length (now out) ⌝ }
+{
+    let shape = rules_shape(rules);
+    let k = rules_length(rules, list);
+    let t = rules_room(rules, table);
+    let read = answer_headers(path, shape, &list[..k], &table[..t], bytes, header, out);
+    match read {
+        HeadersRead::Are(headers) => say_refused(headers, shape.d, path, out),
+        HeadersRead::Stopped(headers) => say_refused(headers, shape.d, path, out),
+        HeadersRead::Failed => {}
+    }
+}
+
+// Does 01's job on rules that have been read: prints their refusal, or the answer to each header.
+fn serve_rules(
+    rules: RulesSoFar,
+    told: bool,
+    rules_path: &[u8],
+    headers_path: &[u8],
+    bytes: &mut [u8],
+    list: &[u32],
+    table: &mut [u16],
+    header: &mut [u32; 8],
+    out: &mut [u8],
+)
+    requires { ⌜ 64 ≤ length (now out) ⌝ }
+{
+    let opened = open_rules(rules, list, table, out);
+    if !write_out(out, opened.at) {
+        return;
+    }
+    let flaw = opened.flaw;
+    if flaw_number(flaw) == 0 {
+        serve_headers(rules, headers_path, bytes, list, table, header, out);
+        return;
+    }
+    if !told {
+        say_flaw(flaw, rules_path, out);
+    }
+}
+
+// Does 01's job on two files.
 pub(crate) fn serve_files(
     rules_path: &[u8],
     headers_path: &[u8],
     bytes: &mut [u8],
     list: &mut [u32],
     table: &mut [u16],
-    header: &mut [u32],
+    header: &mut [u32; 8],
     out: &mut [u8],
 )
-    requires { ⌜ mostTable ≤ length (now table) ⌝ }
+    requires { ⌜ 64 ≤ length (now out) ⌝ }
 {
-    let RulesRead::Are(rules) = read_rules(rules_path, bytes, list) else {
-        return;
-    };
-    let fault = rules_fault(rules, list);
-    if fault != 0 {
-        let at = put_refused(fault, out, 0);
-        flush(out, at);
-        return;
+    let read = read_rules(rules_path, bytes, list);
+    match read {
+        RulesRead::Are(rules) => serve_rules(
+            rules,
+            false,
+            rules_path,
+            headers_path,
+            bytes,
+            list,
+            table,
+            header,
+            out,
+        ),
+        RulesRead::Missing(rules) => serve_rules(
+            rules,
+            true,
+            rules_path,
+            headers_path,
+            bytes,
+            list,
+            table,
+            header,
+            out,
+        ),
+        RulesRead::Failed => {}
     }
-    let shape = shape_read(rules);
-    let k = numbers_in(rules);
-    let t = make_table(shape, &list[..k], table);
-    answer_all(
-        headers_path,
-        shape,
-        &list[..k],
-        &table[..t],
-        bytes,
-        header,
-        out,
-    );
 }

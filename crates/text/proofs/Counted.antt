@@ -1,7 +1,8 @@
 -- What a whole line's cells come to (`readCells` of `specs/Rows.antt`): whether all are numbers, how many they are, and
 -- where their numbers stand in the run.
 --     number-is                             a cell that is a number
---     cells-good, cells-count, cells-run    what cells come to
+--     cells-bad, bad-none, cells-good       the first that is no number, if any
+--     cells-count, cells-run                what cells come to
 --     cells-long                            the run keeps its length
 --     values-length                         as many numbers as cells
 --     many-few, many-large, many-parity     the count, exact up to 65,536 and even or odd as it should be past that
@@ -12,17 +13,17 @@ use mathlib.Core.Bool.{Bool, true, false}
 use mathlib.Core.List.{List, [], _∷_}
 use mathlib.Core.Path.{_≡_, refl, sym, ap, _∙_}
 use native.Mathlib.Omega.{arith}
-use borrow.Author.Tests.{ne-eqb, ltb-true, ltb-false, leb-true, leb-false}
+use borrow.Author.Tests.{ne-eqb, eqb-true, eqb-false, ltb-true, ltb-false, leb-true, leb-false}
 use lib.Dec.{ltb, leb, eqb}
 use lib.ListN.{length, set}
 use lib.Seq.{sets}
 use Rattle.ranges.specs.Numbers.{pick, _and_}
 use Rattle.ranges.proofs.Numbers.{never, and-left, and-right}
 use Rattle.text.specs.Cells.{wholeCell, isNumber, readable, valueOf}
-use Rattle.text.specs.Rows.{allNumbers, valuesOf, oneMore, manyMore, stillGood, keptAs, Reading, readCell, readCells}
+use Rattle.text.specs.Rows.{allNumbers, valuesOf, oneMore, manyMore, badIn, firstBad, badAfter, good, keptAs, Reading, begin, readCell, readCells}
 use Rattle.text.specs.declared.cell.Cell.{Cell}
 use Rattle.text.specs.declared.cell.Cell.the-variants.{Empty, Number, Bad}
-use Rattle.text.proofs.Rows.{more-few, more-many, kept-length}
+use Rattle.text.proofs.Rows.{more-few, more-many, bad-first, bad-before, kept-length}
 
 -- ---- a cell that is a number
 pub number-is : (c : List ℕ) → isNumber (wholeCell c) ≡ true → wholeCell c ≡ Number (valueOf c)
@@ -33,21 +34,54 @@ number-is (b ∷ bs) e = go (readable (b ∷ bs)) e
     go true e' = refl
     go false e' = never (cc)
 
--- ---- whether all are numbers
-still : (cell : Cell) (g t : Bool) → stillGood cell g and t ≡ g and isNumber cell and t
-still Empty true t = refl
-still Empty false t = refl
-still (Number v) g t = refl
-still Bad true t = refl
-still Bad false t = refl
-
-pub cells-good : (from : ℕ) (s : Reading) (cs : List (List ℕ)) → readCells from s cs .row .good ≡ s .row .good and allNumbers cs
-cells-good from s [] = go (s .row .good)
+-- ---- the first that is no number
+more-some : (k : ℕ) → oneMore k ≡ 0 → ⊥
+more-some k = go (ltb k 65536) refl
   where
-    go : (g : Bool) → g ≡ g and true
-    go true = refl
-    go false = refl
-cells-good from s (c ∷ cs) = cells-good from (readCell from s c) cs ∙ still (wholeCell c) (s .row .good) (allNumbers cs)
+    go : (t : Bool) → ltb k 65536 ≡ t → oneMore k ≡ 0 → ⊥
+    go true e none = let one = more-few k (ltb-true k 65536 e) in omega arith
+    go false e none = let many = ltb-false k 65536 e in let one = more-many k many in omega arith
+
+-- after cells of which the k-th is the first bad one, whatever follows
+first-kept : (bad k m : ℕ) → (k ≡ 0 → ⊥) → firstBad (firstBad bad k) m ≡ firstBad bad k
+first-kept bad k m some = go (eqb bad 0) refl
+  where
+    go : (t : Bool) → eqb bad 0 ≡ t → firstBad (firstBad bad k) m ≡ firstBad bad k
+    go true e = let none = eqb-true bad 0 e in rw (bad-first bad k none) (bad-before k m some)
+    go false e = let more = eqb-false bad 0 e in rw (bad-before bad k more) (bad-before bad m more)
+
+-- none follows
+first-none : (bad : ℕ) → firstBad bad 0 ≡ bad
+first-none bad = go (eqb bad 0) refl
+  where
+    go : (t : Bool) → eqb bad 0 ≡ t → firstBad bad 0 ≡ bad
+    go true e = let none = eqb-true bad 0 e in bad-first bad 0 none ∙ sym none
+    go false e = bad-before bad 0 (eqb-false bad 0 e)
+
+pub cells-bad : (from : ℕ) (s : Reading) (cs : List (List ℕ)) → readCells from s cs .row .bad ≡ firstBad (s .row .bad) (badIn (s .row .cells) cs)
+cells-bad from s [] = sym (first-none (s .row .bad))
+cells-bad from s (c ∷ cs) = cells-bad from (readCell from s c) cs ∙ go (wholeCell c)
+  where
+    k : ℕ
+    k = oneMore (s .row .cells)
+
+    go : (cell : Cell) → firstBad (badAfter cell (s .row .bad) k) (badIn k cs) ≡ firstBad (s .row .bad) (pick (isNumber cell) (badIn k cs) k)
+    go Empty = first-kept (s .row .bad) k (badIn k cs) (more-some (s .row .cells))
+    go (Number v) = refl
+    go Bad = first-kept (s .row .bad) k (badIn k cs) (more-some (s .row .cells))
+
+-- there is none exactly where all are numbers
+pub bad-none : (k : ℕ) (cs : List (List ℕ)) → eqb (badIn k cs) 0 ≡ allNumbers cs
+bad-none k [] = refl
+bad-none k (c ∷ cs) = go (isNumber (wholeCell c)) (bad-none (oneMore k) cs)
+  where
+    go : (t : Bool) → eqb (badIn (oneMore k) cs) 0 ≡ allNumbers cs → eqb (pick t (badIn (oneMore k) cs) (oneMore k)) 0 ≡ t and allNumbers cs
+    go true follow = follow
+    go false follow = ne-eqb (oneMore k) 0 (more-some k)
+
+-- a line read from nothing
+pub cells-good : (from : ℕ) (run : List ℕ) (cs : List (List ℕ)) → good (readCells from (begin run) cs .row) ≡ allNumbers cs
+cells-good from run cs = ap (λ k. eqb k 0) (cells-bad from (begin run) cs ∙ bad-first 0 (badIn 0 cs) refl) ∙ bad-none 0 cs
 
 -- ---- how many they are
 pub cells-count : (from : ℕ) (s : Reading) (cs : List (List ℕ)) → readCells from s cs .row .cells ≡ manyMore (s .row .cells) cs

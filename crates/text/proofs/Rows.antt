@@ -1,5 +1,6 @@
 -- Laws of a line of numbers read cell by cell (`specs/Rows.antt`), and the statement that its bytes come to its cells.
 --     more-few, more-many                  one cell more
+--     bad-first, bad-before                the first that is no number
 --     next-empty, next-number, next-bad    the line after a cell
 --     kept-empty, kept-number, kept-bad    the run then
 --     kept-length, kept-long               which keeps its length
@@ -15,7 +16,7 @@ use lib.ListN.{length, set, length-set}
 use lib.Dec.{eqb}
 use Rattle.ranges.specs.Numbers.{pick}
 use Rattle.text.specs.Cells.{fed, withByte}
-use Rattle.text.specs.Rows.{oneMore, rowWith, rowNext, keptAs, keptAt, inFront, cellsIn, Reading, begin, ended, within, readByte, readCell, readCells}
+use Rattle.text.specs.Rows.{oneMore, firstBad, rowWith, rowNext, keptAs, keptAt, inFront, cellsIn, Reading, begin, ended, within, readByte, readCell, readCells}
 use Rattle.text.proofs.Cells.{cell-is}
 use Rattle.text.specs.declared.cell.Cell.{Cell}
 use Rattle.text.specs.declared.cell.Cell.the-variants.{Empty, Number, Bad}
@@ -30,19 +31,28 @@ pub more-many : (k : ℕ) → 65536 ≤ k → oneMore k ≡ k - 1
 unfolding oneMore
 more-many k le = rw (le-ltb k 65536 le)
 
+-- ---- the first cell that is no number
+pub bad-first : (bad k : ℕ) → bad ≡ 0 → firstBad bad k ≡ k
+unfolding firstBad
+bad-first bad k none = rw (eq-eqb bad 0 none)
+
+pub bad-before : (bad k : ℕ) → (bad ≡ 0 → ⊥) → firstBad bad k ≡ bad
+unfolding firstBad
+bad-before bad k some = rw (ne-eqb bad 0 some)
+
 -- ---- the line after a cell, and the run then
 module _ (row : Row) (cells : ℕ) (is : cells ≡ oneMore (row .cells)) where
-  pub next-empty : row .cell ≡ Empty → record { cell = Empty; cells = cells; good = false } ≡ rowNext row
+  pub next-empty : {bad : ℕ} → bad ≡ firstBad (row .bad) cells → row .cell ≡ Empty → record { cell = Empty; cells = cells; bad = bad } ≡ rowNext row
   unfolding rowNext
-  next-empty e = rw (is, e)
+  next-empty first e = rw (first, is, e)
 
-  pub next-number : (v : ℕ) → row .cell ≡ Number v → record { cell = Empty; cells = cells; good = row .good } ≡ rowNext row
+  pub next-number : (v : ℕ) → row .cell ≡ Number v → record { cell = Empty; cells = cells; bad = row .bad } ≡ rowNext row
   unfolding rowNext
   next-number v e = rw (is, e)
 
-  pub next-bad : row .cell ≡ Bad → record { cell = Empty; cells = cells; good = false } ≡ rowNext row
+  pub next-bad : {bad : ℕ} → bad ≡ firstBad (row .bad) cells → row .cell ≡ Bad → record { cell = Empty; cells = cells; bad = bad } ≡ rowNext row
   unfolding rowNext
-  next-bad e = rw (is, e)
+  next-bad first e = rw (first, is, e)
 
 module _ (row : Row) (from : ℕ) (run : List ℕ) where
   pub kept-empty : row .cell ≡ Empty → run ≡ keptAt row from run
@@ -80,7 +90,7 @@ module _ (by from : ℕ) (s : Reading) {b : ℕ} {row : Row} where
 -- ---- the bytes of a line come to its cells
 -- the present cell takes whole bytes and ends
 abbrev filled : ℕ → Reading → List ℕ → Reading
-filled from s c = ended from (record { row = record { cell = fed withByte (s .row .cell) c; cells = s .row .cells; good = s .row .good }; run = s .run })
+filled from s c = ended from (record { row = record { cell = fed withByte (s .row .cell) c; cells = s .row .cells; bad = s .row .bad }; run = s .run })
 
 -- the first piece goes on with the present cell, each other is a cell of its own
 abbrev goesOn : ℕ → Reading → List (List ℕ) → Reading

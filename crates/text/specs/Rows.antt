@@ -2,7 +2,7 @@
 -- to. `readByte` says the same byte by byte, as the code goes; that the two agree is `row-is` of `proofs/Rows.antt`.
 -- Assumes nothing: these are definitions.
 use Prim.Native.Nat.{ℕ, _+_, _-_}
-use mathlib.Core.Bool.{Bool, true, false}
+use mathlib.Core.Bool.{Bool, true}
 use mathlib.Core.List.{List, [], _∷_}
 use lib.ListN.{set}
 use lib.Dec.{ltb, eqb}
@@ -36,22 +36,35 @@ valuesOf (c ∷ cs) = valueOf c ∷ valuesOf cs
 -- ---- what has been read of a line
 -- nothing
 abbrev pub fresh : Row
-fresh = record { cell = Empty; cells = 0; good = true }
+fresh = record { cell = Empty; cells = 0; bad = 0 }
 
 -- one cell more: exactly up to 65,536, and past that even or odd as it should be and above 65,534
 unfoldable pub oneMore : ℕ → ℕ
 oneMore k = pick (ltb k 65536) (k + 1) (k - 1)
 
--- k cells more
+-- k cells and then these
 abbrev pub manyMore : ℕ → List (List ℕ) → ℕ
 manyMore k [] = k
 manyMore k (c ∷ cs) = manyMore (oneMore k) cs
 
--- whether every cell was a number, after one cell more
-abbrev pub stillGood : Cell → Bool → Bool
-stillGood Empty g = false
-stillGood (Number v) g = g
-stillGood Bad g = false
+-- the first cell after k cells that is no number, counted from 1 as above, or 0
+abbrev pub badIn : ℕ → List (List ℕ) → ℕ
+badIn k [] = 0
+badIn k (c ∷ cs) = pick (isNumber (wholeCell c)) (badIn (oneMore k) cs) (oneMore k)
+
+-- the first cell that is no number, where cell k is none and bad is the first before it, or 0
+unfoldable pub firstBad : ℕ → ℕ → ℕ
+firstBad bad k = pick (eqb bad 0) k bad
+
+-- the same after one cell more, the k-th
+abbrev pub badAfter : Cell → ℕ → ℕ → ℕ
+badAfter Empty bad k = firstBad bad k
+badAfter (Number v) bad k = bad
+badAfter Bad bad k = firstBad bad k
+
+-- every cell that has ended is a number
+abbrev pub good : Row → Bool
+good row = eqb (row .bad) 0
 
 -- a run of numbers with a cell's number at a place; one past the run's end changes nothing
 abbrev pub keptAs : Cell → ℕ → List ℕ → List ℕ
@@ -61,11 +74,11 @@ keptAs Bad at run = run
 
 -- with one byte more in the present cell
 abbrev pub rowWith : Row → ℕ → Row
-rowWith row b = record { cell = withByte (row .cell) b; cells = row .cells; good = row .good }
+rowWith row b = record { cell = withByte (row .cell) b; cells = row .cells; bad = row .bad }
 
 -- with the present cell ended
 unfoldable pub rowNext : Row → Row
-rowNext row = record { cell = Empty; cells = oneMore (row .cells); good = stillGood (row .cell) (row .good) }
+rowNext row = record { cell = Empty; cells = oneMore (row .cells); bad = badAfter (row .cell) (row .bad) (oneMore (row .cells)) }
 
 -- and the run then, for a line whose first number goes to place `from`
 unfoldable pub keptAt : Row → ℕ → List ℕ → List ℕ
@@ -96,7 +109,7 @@ readByte by from s b = pick (eqb b by) (ended from s) (within s b)
 abbrev pub readCell : ℕ → Reading → List ℕ → Reading
 readCell from s c =
     record {
-      row = record { cell = Empty; cells = oneMore (s .row .cells); good = stillGood (wholeCell c) (s .row .good) };
+      row = record { cell = Empty; cells = oneMore (s .row .cells); bad = badAfter (wholeCell c) (s .row .bad) (oneMore (s .row .cells)) };
       run = keptAs (wholeCell c) (from + s .row .cells) (s .run);
     }
 

@@ -9,5 +9,6 @@
 //
 // Writing. Bytes are put at a place of a lent run, and the place after them is answered (`put`).
 pub mod cell;
+pub mod line;
 pub mod put;
 pub mod row;

@@ -4,14 +4,14 @@ use crate::cell::Cell;
 use crate::cell::with_byte;
 ghost use mathlib.Core.Path.{_≡_};
 ghost use lib.ListN.{set};
-ghost use Rattle.text.specs.Rows.{fresh, oneMore, rowWith, rowNext, keptAt};
+ghost use Rattle.text.specs.Rows.{fresh, oneMore, firstBad, rowWith, rowNext, keptAt};
 
-// What has been read of a line: the cell that is being read, how many cells have ended, and whether each of them was
-// a number.
+// What has been read of a line: the cell that is being read, how many cells have ended, and the first of them that was
+// no number, counted from 1, or 0 while there is none.
 pub struct Row {
     pub cell: Cell,
     pub cells: u32,
-    pub good: bool,
+    pub bad: u32,
 }
 
 // Makes a line of which nothing has been read.
@@ -21,7 +21,7 @@ pub fn row_start() -> Row
     Row {
         cell: Cell::Empty,
         cells: 0,
-        good: true,
+        bad: 0,
     }
 }
 
@@ -44,8 +44,18 @@ pub fn row_byte(row: Row, byte: u8) -> Row
     Row {
         cell: with_byte(cell, byte),
         cells: row.cells,
-        good: row.good,
+        bad: row.bad,
     }
+}
+
+// Says which cell is the first that is no number, where cell k is none and `bad` is the first before it, or 0.
+fn first_bad(bad: u32, k: u32) -> u32
+    ensures { λ r. ⌜ r ≡ firstBad bad k ⌝ }
+{
+    if bad == 0 {
+        return k;
+    }
+    bad
 }
 
 // Writes a number to a place of a run; past the run's end it changes nothing.
@@ -70,20 +80,20 @@ pub fn row_next(row: Row, from: u32, run: &mut [u32]) -> Row
         Cell::Empty => Row {
             cell: Cell::Empty,
             cells,
-            good: false,
+            bad: first_bad(row.bad, cells),
         },
         Cell::Number(v) => {
             keep(run, at, v);
             Row {
                 cell: Cell::Empty,
                 cells,
-                good: row.good,
+                bad: row.bad,
             }
         }
         Cell::Bad => Row {
             cell: Cell::Empty,
             cells,
-            good: false,
+            bad: first_bad(row.bad, cells),
         },
     }
 }

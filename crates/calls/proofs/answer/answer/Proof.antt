@@ -2,7 +2,7 @@
 -- Assumes nothing.
 use borrow.Author.Needs.{needs}
 use native.Mathlib.Omega.{arith}
-use Rattle.calls.proofs.Few.{few-text, few-then, few-more}
+use Rattle.words.proofs.Few.{few-text, few-then, few-more}
 use Rattle.calls.proofs.answer.answer.Statement.{statement}
 use Rattle.calls.proofs.answer.answer.Tie as tie
 
@@ -20,8 +20,10 @@ same-length-2 c = search needs
 
 returns : tie.Need-returns
 returns c =
-    few-more (omega arith)
-    (few-then (c .before .before .before .before .before .before .before .before .put-answer .ensures) (few-text 1 (omega arith) (c .before .before .put-byte .ensures)))
+    let said = c .before .before .before .before .before .before .before .before .put-answer in (
+      few-more (omega arith) (few-then (said .ensures .0) (few-text 1 (omega arith) (c .before .before .put-byte .ensures))),
+      said .ensures .1,
+    )
 
 pub answer-spec : {M : Type 1} → statement M
 answer-spec =

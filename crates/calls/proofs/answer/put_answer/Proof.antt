@@ -4,9 +4,9 @@ use borrow.Author.Needs.{needs}
 use native.Mathlib.Omega.{arith}
 use mathlib.Core.Path.{sym}
 use lib.Seq.{length-take-le}
-use borrow.Author.Tests.{not-true, not-false}
-use Rattle.calls.proofs.Answers.{unnamed, named-said, ill-read, crowded, lost-name, called}
-use Rattle.calls.proofs.Few.{few-more}
+use borrow.Author.Tests.{eq-eqb, ne-eqb, not-true, not-false}
+use Rattle.calls.proofs.Answers.{ill-read, crowded, lost-name, called, unnamed-put, named-bad, named-call}
+use Rattle.words.proofs.Few.{few-more}
 use Rattle.calls.proofs.answer.put_answer.Statement.{statement}
 use Rattle.calls.proofs.answer.put_answer.Tie as tie
 
@@ -20,7 +20,7 @@ same-length c = search needs
 returns : tie.Need-returns
 returns c =
     let a = c .before .before .before .before .before .before .before .before .before .args in
-    rw (unnamed (a .line) (a .name .now) (a .numbers .now) (not-true (a .line .named) (c .before .before .before .before .if1 .taken))) (few-more (omega arith) (c .before .before .put-bad .ensures))
+    unnamed-put (a .line) (a .name .now) (a .numbers .now) (not-true (a .line .named) (c .before .before .before .before .if1 .taken)) (few-more (omega arith) (c .before .before .put-bad .ensures))
 
 row-next-requires : tie.Need-row-next-requires
 row-next-requires c κs = search needs
@@ -37,9 +37,12 @@ same-length-3 c = search needs
 -- a word that is no number
 returns-2 : tie.Need-returns-2
 returns-2 c =
-    let a = c .before .before .before .before .before .before .before .before .before .before .before .before .before .before .before .before .args in
-    let ended = c .before .before .before .before .before .before .before .before .row-next in
-    rw (named-said (a .line) (a .name .now) (a .numbers .now) (ended .ensures .0) (ended .ensures .1) (not-false (a .line .named) (c .before .before .before .before .before .before .before .before .before .before .before .if1 .left)), ill-read _ _ (ended .result) _ (not-true (ended .result .good) (c .before .before .before .before .if2 .taken))) (few-more (omega arith) (c .before .before .put-bad2 .ensures))
+    let test = c .before .before .before .before in
+    let ended = test .before .before .before .before in
+    let named = ended .before .before .before in
+    let a = named .before .before .before .before .before .args in
+    let row = ended .row-next in
+    named-bad (a .line) (a .name .now) (a .numbers .now) (row .ensures .0) (row .ensures .1) (not-false (a .line .named) (named .if1 .left)) (ill-read (a .line .length) (a .name .now) (row .result) _ (ne-eqb (row .result .bad) 0 (test .if2 .taken))) (few-more (omega arith) (c .before .before .put-bad2 .ensures))
 
 cast-count : tie.Need-cast-count
 cast-count c = search needs
@@ -56,9 +59,13 @@ same-length-5 c = search needs
 -- too many numbers
 returns-3 : tie.Need-returns-3
 returns-3 c =
-    let a = c .before .before .before .before .before .before .before .before .before .before .before .before .before .before .before .before .before .before .args in
-    let ended = c .before .before .before .before .before .before .before .before .before .before .row-next in
-    rw (named-said (a .line) (a .name .now) (a .numbers .now) (ended .ensures .0) (ended .ensures .1) (not-false (a .line .named) (c .before .before .before .before .before .before .before .before .before .before .before .before .before .if1 .left)), crowded _ _ (ended .result) _ (not-false (ended .result .good) (c .before .before .before .before .before .before .if2 .left)) (c .before .before .before .before .if3 .taken)) (few-more (omega arith) (c .before .before .put-bad3 .ensures))
+    let test = c .before .before .before .before in
+    let good = test .before .before in
+    let ended = good .before .before .before .before in
+    let named = ended .before .before .before in
+    let a = named .before .before .before .before .before .args in
+    let row = ended .row-next in
+    named-bad (a .line) (a .name .now) (a .numbers .now) (row .ensures .0) (row .ensures .1) (not-false (a .line .named) (named .if1 .left)) (crowded (a .line .length) (a .name .now) (row .result) _ (eq-eqb (row .result .bad) 0 (good .if2 .left)) (test .if3 .taken)) (few-more (omega arith) (c .before .before .put-bad3 .ensures))
 
 put-bad-requires-4 : tie.Need-put-bad-requires-4
 put-bad-requires-4 c κs = search needs
@@ -72,9 +79,14 @@ same-length-7 c = search needs
 -- a name past its run
 returns-4 : tie.Need-returns-4
 returns-4 c =
-    let a = c .before .before .before .before .before .before .before .before .before .before .before .before .before .before .before .before .before .before .before .args in
-    let ended = c .before .before .before .before .before .before .before .before .before .before .before .row-next in
-    rw (named-said (a .line) (a .name .now) (a .numbers .now) (ended .ensures .0) (ended .ensures .1) (not-false (a .line .named) (c .before .before .before .before .before .before .before .before .before .before .before .before .before .before .if1 .left)), lost-name _ _ (ended .result) _ (not-false (ended .result .good) (c .before .before .before .before .before .before .before .if2 .left)) (c .before .before .before .before .before .if3 .left) (c .before .before .before .before .if4 .taken)) (few-more (omega arith) (c .before .before .put-bad4 .ensures))
+    let test = c .before .before .before .before in
+    let fits = test .before in
+    let good = fits .before .before in
+    let ended = good .before .before .before .before in
+    let named = ended .before .before .before in
+    let a = named .before .before .before .before .before .args in
+    let row = ended .row-next in
+    named-bad (a .line) (a .name .now) (a .numbers .now) (row .ensures .0) (row .ensures .1) (not-false (a .line .named) (named .if1 .left)) (lost-name (a .line .length) (a .name .now) (row .result) _ (eq-eqb (row .result .bad) 0 (good .if2 .left)) (fits .if3 .left) (test .if4 .taken)) (few-more (omega arith) (c .before .before .put-bad4 .ensures))
 
 slice-aggregate-word-of : tie.Need-slice-aggregate-word-of
 slice-aggregate-word-of c = sym (length-take-le _ _ (c .before .if4 .left))
@@ -100,9 +112,15 @@ same-length-9 c = search needs
 -- a call
 returns-5 : tie.Need-returns-5
 returns-5 c =
-    let a = c .before .before .before .before .before .before .before .before .before .before .before .before .before .before .before .before .before .before .before .before .before .before .before .before .args in
-    let ended = c .before .before .before .before .before .before .before .before .before .before .before .before .before .before .before .before .row-next in
-    rw (named-said (a .line) (a .name .now) (a .numbers .now) (ended .ensures .0) (ended .ensures .1) (not-false (a .line .named) (c .before .before .before .before .before .before .before .before .before .before .before .before .before .before .before .before .before .before .before .if1 .left)), called _ _ (ended .result) _ (not-false (ended .result .good) (c .before .before .before .before .before .before .before .before .before .before .before .before .if2 .left)) (c .before .before .before .before .before .before .before .before .before .before .if3 .left) (c .before .before .before .before .before .before .before .before .before .if4 .left), ← c .before .before .before .before .before .before .before .word-of .ensures) (c .before .before .before .before .put-word .ensures)
+    let said = c .before .before .before .before .put-word in
+    let test = c .before .before .before .before .before .before .before .before .before in
+    let fits = test .before in
+    let good = fits .before .before in
+    let ended = good .before .before .before .before in
+    let named = ended .before .before .before in
+    let a = named .before .before .before .before .before .args in
+    let row = ended .row-next in
+    named-call (a .line) (a .name .now) (a .numbers .now) (row .ensures .0) (row .ensures .1) (not-false (a .line .named) (named .if1 .left)) (called (a .line .length) (a .name .now) (row .result) _ (eq-eqb (row .result .bad) 0 (good .if2 .left)) (fits .if3 .left) (test .if4 .left)) (c .before .before .before .before .before .before .before .word-of .ensures) (said .ensures .0) (said .ensures .1)
 
 pub put-answer-spec : {M : Type 1} → statement M
 put-answer-spec =

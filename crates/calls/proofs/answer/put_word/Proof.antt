@@ -2,7 +2,8 @@
 -- Assumes nothing.
 use borrow.Author.Needs.{needs}
 use native.Mathlib.Omega.{arith}
-use Rattle.calls.proofs.Few.{few-more}
+use mathlib.Core.Path.{refl}
+use Rattle.words.proofs.Few.{few-more}
 use Rattle.calls.proofs.answer.put_word.Statement.{statement}
 use Rattle.calls.proofs.answer.put_word.Tie as tie
 
@@ -55,7 +56,9 @@ same-length-2 : tie.Need-same-length-2
 same-length-2 c = search needs
 
 returns : tie.Need-returns
-returns c = rw (c .before .before .before .before .before .enum-told .given .1) (few-more (omega arith) (c .before .before .call-check .ensures))
+returns c =
+    let is = c .before .before .before .before .before .enum-told .given .1 in
+    (rw is (few-more (omega arith) (c .before .before .call-check .ensures)), rw is refl)
 
 same-length-3 : tie.Need-same-length-3
 same-length-3 c = search needs
@@ -64,7 +67,9 @@ same-length-4 : tie.Need-same-length-4
 same-length-4 c = search needs
 
 returns-2 : tie.Need-returns-2
-returns-2 c = rw (c .before .before .before .before .before .enum-told2 .given .1) (few-more (omega arith) (c .before .before .call-scan .ensures))
+returns-2 c =
+    let is = c .before .before .before .before .before .enum-told2 .given .1 in
+    (rw is (few-more (omega arith) (c .before .before .call-scan .ensures)), rw is refl)
 
 same-length-5 : tie.Need-same-length-5
 same-length-5 c = search needs
@@ -73,7 +78,9 @@ same-length-6 : tie.Need-same-length-6
 same-length-6 c = search needs
 
 returns-3 : tie.Need-returns-3
-returns-3 c = rw (c .before .before .before .before .before .enum-told3 .given .1) (few-more (omega arith) (c .before .before .call-independent .ensures))
+returns-3 c =
+    let is = c .before .before .before .before .before .enum-told3 .given .1 in
+    (rw is (few-more (omega arith) (c .before .before .call-independent .ensures)), rw is refl)
 
 same-length-7 : tie.Need-same-length-7
 same-length-7 c = search needs
@@ -82,7 +89,9 @@ same-length-8 : tie.Need-same-length-8
 same-length-8 c = search needs
 
 returns-4 : tie.Need-returns-4
-returns-4 c = rw (c .before .before .before .before .before .before .word .given .1) (c .before .before .call-table .ensures)
+returns-4 c =
+    let is = c .before .before .before .before .before .before .word .given .1 in
+    (rw is (c .before .before .call-table .ensures), rw is refl)
 
 same-length-9 : tie.Need-same-length-9
 same-length-9 c = search needs
@@ -91,7 +100,9 @@ same-length-10 : tie.Need-same-length-10
 same-length-10 c = search needs
 
 returns-5 : tie.Need-returns-5
-returns-5 c = rw (c .before .before .before .before .before .enum-told4 .given .1) (few-more (omega arith) (c .before .before .call-p2r .ensures))
+returns-5 c =
+    let is = c .before .before .before .before .before .enum-told4 .given .1 in
+    (rw is (few-more (omega arith) (c .before .before .call-p2r .ensures)), rw is refl)
 
 same-length-11 : tie.Need-same-length-11
 same-length-11 c = search needs
@@ -100,13 +111,17 @@ same-length-12 : tie.Need-same-length-12
 same-length-12 c = search needs
 
 returns-6 : tie.Need-returns-6
-returns-6 c = rw (c .before .before .before .before .before .before .before .enum-told5 .given .1) (c .before .before .before .before .call-r2p .ensures)
+returns-6 c =
+    let is = c .before .before .before .before .before .before .before .enum-told5 .given .1 in
+    (rw is (c .before .before .before .before .call-r2p .ensures .0), rw is (c .before .before .before .before .call-r2p .ensures .1))
 
 same-length-13 : tie.Need-same-length-13
 same-length-13 c = search needs
 
 returns-7 : tie.Need-returns-7
-returns-7 c = rw (c .before .before .before .before .enum-told6 .given .1) (few-more (omega arith) (c .before .before .put-bad .ensures))
+returns-7 c =
+    let is = c .before .before .before .before .enum-told6 .given .1 in
+    (rw is (few-more (omega arith) (c .before .before .put-bad .ensures)), rw is refl)
 
 pub put-word-spec : {M : Type 1} → statement M
 put-word-spec =

@@ -3,7 +3,7 @@
 use borrow.Author.Needs.{needs}
 use mathlib.Core.Path.{sym}
 use native.Mathlib.Omega.{arith}
-use Rattle.calls.proofs.Longest.{table-most}
+use Rattle.words.proofs.Longest.{table-most}
 use Rattle.calls.proofs.Replies.{room-is, room-not}
 use Rattle.calls.proofs.reply.has_room.Statement.{statement}
 use Rattle.calls.proofs.reply.has_room.Tie as tie

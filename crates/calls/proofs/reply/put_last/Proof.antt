@@ -27,7 +27,8 @@ same-length-2 c = search needs
 returns-2 : tie.Need-returns-2
 returns-2 c =
     let tested = c .before .before .before .before .before .before .before in
-    last-some (sym (tested .before .has-begun .ensures) ∙ not-false _ (tested .if1 .left)) (c .before .before .before .before .answer .ensures)
+    let said = c .before .before .before .before .answer in
+    last-some (sym (tested .before .has-begun .ensures) ∙ not-false _ (tested .if1 .left)) (said .ensures .0) (said .ensures .1)
 
 pub put-last-spec : {M : Type 1} → statement M
 put-last-spec =

@@ -1,14 +1,14 @@
 -- `calls::reply::serve_line` meets its contract: each way out is the law of its case.
 -- Assumes nothing.
 use borrow.Author.Needs.{needs}
-use mathlib.Core.Path.{sym, _∙_}
+use mathlib.Core.Path.{sym}
 use native.Mathlib.Omega.{arith}
 use lib.ListN.{length}
 use Prim.Native.Nat.{_≤_}
 use lib.Seq.{length-take-le}
 use Rattle.calls.specs.Lines.{heard}
 use Rattle.calls.proofs.Lines.{line-within}
-use Rattle.calls.proofs.Serving.{served-within, served-ended}
+use Rattle.calls.proofs.Serving.{served-within, served-ended, anew-is}
 use Rattle.calls.proofs.reply.serve_line.Statement.{statement}
 use Rattle.calls.proofs.reply.serve_line.Tie as tie
 
@@ -35,7 +35,7 @@ returns : tie.Need-returns
 returns c =
     let a = c .before .before .before .before .before .before .before .before .before .before .before .before .before .before .args in
     let heard-now = c .before .before .before .before .before .hear in
-    served-within (heard (a .line) (a .name .now) (a .numbers .now)) (a .bytes .now) _ (c .before .before .before .before .before .before .before .before .before .line-in .ensures) (heard-now .ensures) (c .if1 .taken) (heard-now .kept .1 .1 .0) (heard-now .kept .1 .1 .1 .0)
+    served-within (heard (a .line) (a .name .now) (a .numbers .now)) (a .bytes .now) _ (c .before .before .before .before .before .before .before .before .before .line-in .ensures) (heard-now .ensures) (c .if1 .taken)
 
 answer-requires : tie.Need-answer-requires
 answer-requires c κs = search needs
@@ -43,8 +43,8 @@ answer-requires c κs = search needs
 line-start-requires : tie.Need-line-start-requires
 line-start-requires c κs = search needs
 
-add-t16 : tie.Need-add-t16
-add-t16 c = omega (arith, c .before .before .before .before .before .before .before .before .before .before .before .before .before .before .before .before .before .before .line-in .ensures, line-within (c .before .before .before .before .before .before .before .before .before .before .before .before .before .before .before .before .before .before .before .before .before .before .before .args .bytes .now), c .before .before .before .before .before .before .before .before .before .before .before .before .before .before .before .before .before .before .before .before .before .before .before .good .1 .0 .0)
+add-next : tie.Need-add-next
+add-next c = omega (arith, c .before .before .before .before .before .before .before .before .before .before .before .before .before .before .before .before .before .before .line-in .ensures, line-within (c .before .before .before .before .before .before .before .before .before .before .before .before .before .before .before .before .before .before .before .before .before .before .before .args .bytes .now), c .before .before .before .before .before .before .before .before .before .before .before .before .before .before .before .before .before .before .before .before .before .before .before .good .1 .0 .0)
 
 same-length-3 : tie.Need-same-length-3
 same-length-3 c = search needs
@@ -61,7 +61,7 @@ returns-2 c =
     let a = c .before .before .before .before .before .before .before .before .before .before .before .before .before .before .before .before .before .before .before .before .before .before .before .args in
     let heard-now = c .before .before .before .before .before .before .before .before .before .before .before .before .before .before .hear in
     let said = c .before .before .before .before .before .answer in
-    served-ended (heard (a .line) (a .name .now) (a .numbers .now)) (a .bytes .now) _ (c .before .before .before .before .before .before .before .before .before .before .before .before .before .before .before .before .before .before .line-in .ensures) (heard-now .ensures) (c .before .before .before .before .before .before .before .before .before .if1 .left) (said .ensures) (c .line-start .ensures) (heard-now .kept .1 .1 .0) (said .kept .1 .1 .0 ∙ heard-now .kept .1 .1 .1 .0)
+    served-ended (heard (a .line) (a .name .now) (a .numbers .now)) (a .bytes .now) _ (c .before .before .before .before .before .before .before .before .before .before .before .before .before .before .before .before .before .before .line-in .ensures) (heard-now .ensures) (c .before .before .before .before .before .before .before .before .before .if1 .left) (said .ensures .0) (anew-is _ (c .line-start .ensures) (said .ensures .1))
 
 pub serve-line-spec : {M : Type 1} → statement M
 serve-line-spec =
@@ -75,7 +75,7 @@ serve-line-spec =
     returns
     answer-requires
     line-start-requires
-    add-t16
+    add-next
     same-length-3
     same-length-4
     same-length-5

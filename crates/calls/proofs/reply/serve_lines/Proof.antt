@@ -1,34 +1,29 @@
--- `calls::reply::serve_lines` meets its contract. At the loop's head the first `next` bytes are replied to, and there is room for one
--- more answer; the measure is what is left of the bytes.
+-- `calls::reply::serve_lines` meets its contract. At the loop's head the first `next` bytes are served, and there is room for one more
+-- answer (`Came`); the measure is what is left of the bytes.
 -- Assumes nothing.
 use borrow.Author.Needs.{needs}
-use Prim.Native.Nat.{_≤_, _-_}
+use Prim.Native.Nat.{_-_}
 use mathlib.Core.Path.{_≡_, refl, sym, _∙_}
-use borrow.Author.Tests.{not-false}
+use borrow.Author.Tests.{not-true, not-false}
 use native.Mathlib.Omega.{arith}
-use lib.ListN.{length, take}
-use Rattle.calls.specs.Limits.{answerMost}
+use lib.ListN.{length}
 use Rattle.calls.specs.Lines.{heard}
-use Rattle.calls.specs.Replies.{Replied}
-use Rattle.calls.proofs.Serving.{served-on}
-use Rattle.calls.proofs.Replies.{replied-none, replied-more, RoomLeft, room-left-first, room-left-more, none-lost-more, replied-whole}
+use Rattle.calls.proofs.Replies.{Came, came-none, turn-most, turn-some, came-more, lines-full, lines-all}
 use Rattle.calls.proofs.reply.serve_lines.Statement.{statement}
 use Rattle.calls.proofs.reply.serve_lines.Tie as tie
 
 abbrev Inv-loop : tie.InvT-loop
 Inv-loop bytes name₀ numbers₀ out₀ present₀ next₀ at₀ name numbers out present next at =
-    (next ≤ length bytes)
-    × (length name ≡ length name₀)
+    (length name ≡ length name₀)
     × (length numbers ≡ length numbers₀)
     × (length out ≡ length out₀)
-    × Replied (heard present₀ name₀ numbers₀) (take next bytes) out₀ 0 (heard present name numbers) out at
-    × (answerMost ≤ length out₀ → RoomLeft (heard present₀ name₀ numbers₀) (take next bytes) (length out) at)
+    × Came (heard present₀ name₀ numbers₀) bytes out₀ (heard present name numbers) next out at
 
 abbrev μ-loop : tie.MeasureT-loop
 μ-loop bytes name₀ numbers₀ out₀ present₀ next₀ at₀ name numbers out present next at = length bytes - next
 
 loop-holds : tie.Need-loop-holds Inv-loop μ-loop
-loop-holds c = (search needs, refl, refl, refl, replied-none, room-left-first)
+loop-holds c = (refl, refl, refl, came-none)
 
 sub-serve-line : tie.Need-sub-serve-line Inv-loop μ-loop
 sub-serve-line c = search needs
@@ -47,7 +42,7 @@ add-next c =
     let served = c .before .before .before .before .before .before .before .before in
     let test = served .before .before .before .before .before in
     let a = test .before .before .before .before .before .before in
-    let turn = served-on (a .args .bytes .now) (test .before .loop .next) (test .loop-test .taken) (served .serve-line .ensures .count) in
+    let most = turn-most (test .before .loop .inv .3) (served .serve-line .ensures) in
     omega (arith, a .good .1 .0 .0)
 
 has-room-requires : tie.Need-has-room-requires Inv-loop μ-loop
@@ -65,40 +60,28 @@ same-length-3 c = search needs
 returns : tie.Need-returns Inv-loop μ-loop
 returns c =
     let served = c .before .before .before .before .before .before .before .before .before .before .before in
-    let test = served .before .before .before .before .before in
-    let bytes = test .before .before .before .before .before .before .args .bytes .now in
-    let loop = test .before .loop in
-    let turn = served-on bytes (loop .next) (test .loop-test .taken) (served .serve-line .ensures .count) in
-    let replied = replied-more bytes (loop .next) (loop .inv .4) (served .serve-line .ensures) in
-    record {
-      most = turn .1;
-      some = λ some. omega arith;
-      replied = replied;
-      whole = λ enough. replied-whole replied (none-lost-more bytes (loop .next) (loop .inv .4) (loop .inv .5 enough) (served .serve-line .ensures));
-    }
+    let loop = served .before .before .before .before .before .before .loop in
+    lines-full (loop .inv .3) (served .serve-line .ensures) (sym (c .before .has-room .ensures) ∙ not-true _ (c .if1 .taken))
 
 loop-less : tie.Need-loop-less Inv-loop μ-loop
 loop-less c =
     let served = c .before .before .before .before .before .before .before .before .before .before .before in
     let test = served .before .before .before .before .before in
-    let bytes = test .before .before .before .before .before .before .args .bytes .now in
     let loop = test .before .loop in
-    let turn = served-on bytes (loop .next) (test .loop-test .taken) (served .serve-line .ensures .count) in
+    let most = turn-most (loop .inv .3) (served .serve-line .ensures) in
+    let some = turn-some (loop .inv .3) (served .serve-line .ensures) (test .loop-test .taken) in
     omega arith
 
+-- there is room
 loop-again : tie.Need-loop-again Inv-loop μ-loop
 loop-again c =
     let served = c .before .before .before .before .before .before .before .before .before .before .before in
     let test = served .before .before .before .before .before in
-    let bytes = test .before .before .before .before .before .before .args .bytes .now in
-    let loop = test .before .loop in
-    let turn = served-on bytes (loop .next) (test .loop-test .taken) (served .serve-line .ensures .count) in (
-      turn .1,
-      served .serve-line .kept .1 .1 .0 ∙ loop .inv .1,
-      served .serve-line .kept .1 .1 .1 .0 ∙ loop .inv .2,
-      served .serve-line .kept .1 .1 .1 .1 .0 ∙ loop .inv .3,
-      replied-more bytes (loop .next) (loop .inv .4) (served .serve-line .ensures),
-      λ enough. room-left-more (none-lost-more bytes (loop .next) (loop .inv .4) (loop .inv .5 enough) (served .serve-line .ensures)) (sym (c .before .has-room .ensures) ∙ not-false _ (c .if1 .left)),
+    let loop = test .before .loop in (
+      served .serve-line .kept .1 .1 .0 ∙ loop .inv .0,
+      served .serve-line .kept .1 .1 .1 .0 ∙ loop .inv .1,
+      served .serve-line .kept .1 .1 .1 .1 .0 ∙ loop .inv .2,
+      came-more (loop .inv .3) (served .serve-line .ensures) (sym (c .before .has-room .ensures) ∙ not-false _ (c .if1 .left)),
     )
 
 same-length-4 : tie.Need-same-length-4 Inv-loop μ-loop
@@ -111,14 +94,7 @@ same-length-6 : tie.Need-same-length-6 Inv-loop μ-loop
 same-length-6 c = search needs
 
 returns-2 : tie.Need-returns-2 Inv-loop μ-loop
-returns-2 c =
-    let loop = c .before .loop in
-    record {
-      most = loop .inv .0;
-      some = λ some. omega arith;
-      replied = loop .inv .4;
-      whole = λ enough. replied-whole (loop .inv .4) (loop .inv .5 enough .none-lost);
-    }
+returns-2 c = lines-all (c .before .loop .inv .3) (c .loop-test .left)
 
 pub serve-lines-spec : {M : Type 1} → statement M
 serve-lines-spec =

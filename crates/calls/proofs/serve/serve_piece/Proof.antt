@@ -6,7 +6,9 @@ use Prim.Native.Nat.{_≤_, _-_}
 use mathlib.Core.Path.{_≡_, refl, _∙_}
 use native.Mathlib.Omega.{arith}
 use lib.ListN.{length}
-use Rattle.calls.proofs.Lent.{rest-long}
+use Rattle.words.proofs.Lent.{rest-long}
+use Rattle.calls.specs.Lines.{heard}
+use Rattle.calls.proofs.Replies.{served-lines}
 use Rattle.calls.proofs.serve.serve_piece.Statement.{statement}
 use Rattle.calls.proofs.serve.serve_piece.Tie as tie
 
@@ -38,8 +40,7 @@ add-next c =
     let bytes = test .before .before .before .before .before .before .args .bytes .now in
     let loop = test .before .loop in
     let size = rest-long bytes (loop .next) in
-    let taken = served .serve-lines .ensures in
-    let some = taken .some (omega arith) in
+    let turn = served-lines (heard (loop .present) (loop .name) (loop .numbers)) (served .serve-lines .ensures) (omega arith) in
     omega (arith, test .before .before .before .before .before .before .good .1 .0 .0)
 
 flush-requires : tie.Need-flush-requires Inv-loop μ-loop
@@ -64,8 +65,7 @@ loop-less c =
     let bytes = test .before .before .before .before .before .before .args .bytes .now in
     let loop = test .before .loop in
     let size = rest-long bytes (loop .next) in
-    let taken = served .serve-lines .ensures in
-    let some = taken .some (omega arith) in
+    let turn = served-lines (heard (loop .present) (loop .name) (loop .numbers)) (served .serve-lines .ensures) (omega arith) in
     omega arith
 
 loop-again : tie.Need-loop-again Inv-loop μ-loop
@@ -75,8 +75,7 @@ loop-again c =
     let bytes = test .before .before .before .before .before .before .args .bytes .now in
     let loop = test .before .loop in
     let size = rest-long bytes (loop .next) in
-    let taken = served .serve-lines .ensures in
-    let some = taken .some (omega arith) in (
+    let turn = served-lines (heard (loop .present) (loop .name) (loop .numbers)) (served .serve-lines .ensures) (omega arith) in (
       omega arith,
       served .serve-lines .kept .1 .1 .0 ∙ loop .inv .1,
       served .serve-lines .kept .1 .1 .1 .0 ∙ loop .inv .2,

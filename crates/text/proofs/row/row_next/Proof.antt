@@ -18,6 +18,9 @@ add-at c = search needs
 enum-told : tie.Need-enum-told
 enum-told c = search needs
 
+first-bad-requires : tie.Need-first-bad-requires
+first-bad-requires c κs = search needs
+
 enum-known-cell : tie.Need-enum-known-cell
 enum-known-cell c = search needs
 
@@ -27,11 +30,15 @@ keep-requires c κs = search needs
 enum-told-2 : tie.Need-enum-told-2
 enum-told-2 c = search needs
 
+first-bad-requires-2 : tie.Need-first-bad-requires-2
+first-bad-requires-2 c κs = search needs
+
 -- an empty cell
 returns : tie.Need-returns
 returns c =
-    let one = c .before .before .before .one-more .ensures in
-    (next-empty _ _ one (c .enum-told .given .1), kept-empty _ _ _ (c .enum-told .given .1))
+    let arm = c .before in
+    let one = arm .before .before .before .one-more .ensures in
+    (next-empty _ _ one (c .first-bad .ensures) (arm .enum-told .given .1), kept-empty _ _ _ (arm .enum-told .given .1))
 
 same-length : tie.Need-same-length
 same-length c = search needs
@@ -47,8 +54,9 @@ returns-2 c =
 -- a bad cell
 returns-3 : tie.Need-returns-3
 returns-3 c =
-    let one = c .before .before .before .one-more .ensures in
-    (next-bad _ _ one (c .enum-told2 .given .1), kept-bad _ _ _ (c .enum-told2 .given .1))
+    let arm = c .before in
+    let one = arm .before .before .before .one-more .ensures in
+    (next-bad _ _ one (c .first-bad2 .ensures) (arm .enum-told2 .given .1), kept-bad _ _ _ (arm .enum-told2 .given .1))
 
 pub row-next-spec : {M : Type 1} → statement M
 row-next-spec =
@@ -58,9 +66,11 @@ row-next-spec =
     cast-at
     add-at
     enum-told
+    first-bad-requires
     enum-known-cell
     keep-requires
     enum-told-2
+    first-bad-requires-2
     returns
     same-length
     returns-2

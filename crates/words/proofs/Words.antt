@@ -1,0 +1,130 @@
+-- Laws of what each word answers and leaves (`specs/Words.antt`), way by way.
+-- Assumes nothing.
+use Prim.Native.Nat.{ℕ, _+_, _-_, _*_, _/_, _≤_, _<_}
+use mathlib.Core.List.{List, _++_}
+use mathlib.Core.Bool.{Bool, true, false}
+use mathlib.Core.Path.{_≡_, refl, ap, _∙_}
+use native.Mathlib.Omega.{arith}
+use borrow.Author.Tests.{le-leb, lt-leb, eq-eqb, ne-eqb, leb-true, ltb-false}
+use lib.Dec.{ltb, leb, eqb}
+use Rattle.ranges.specs.Numbers.{pick, _and_}
+use Rattle.ranges.specs.Refusals.{none, refusedAt, stands, TooLittleRoom}
+use Rattle.ranges.proofs.Numbers.{never}
+use Rattle.ranges.proofs.Passes.{written-length}
+use lib.ListN.{length, getD, take, drop, length-append, length-take, length-drop}
+use borrow.Rule.Slice.PartMut.{putMid}
+use Rattle.ranges.specs.declared.refusal.Count.{Count}
+use Rattle.ranges.specs.Prefixes.{boundsOf}
+use Rattle.ranges.specs.Blocks.{prefixesOf, rangeFault, roomFault, expandOf, runAfter}
+use Rattle.lists.specs.Rules.{Rules}
+use Rattle.sorting.specs.Build.{Built}
+use Rattle.text.specs.Texts.{bytes}
+use Rattle.words.specs.Limits.{runMost, answerMost}
+use Rattle.words.specs.Few.{PutFew}
+use Rattle.words.specs.Said.{allSpaced, countSaid, boundsSaid}
+use Rattle.words.specs.Words.{badSaid, buildSaid, p2rSaid, expandedSaid, r2pStands, r2pSaid, r2pLeft}
+use Rattle.words.proofs.Lent.{rest-lent, rest-long, rest-back}
+use Rattle.words.proofs.Longest.{table-most}
+use Rattle.words.proofs.Few.{few-more}
+
+-- ---- build, lookup, audit, report
+-- the answer and the table as the library left them
+pub built-is : (R : Rules) (T : List ℕ) {count : Count} {after out : List ℕ} {at : ℕ} {last : List ℕ} {end most : ℕ} → Built R T after count
+    → PutFew most out at (countSaid count ++ bytes " table" ++ allSpaced after) last end → PutFew most out at (buildSaid R T) last end
+built-is R T built put = rw (built .answers, built .leaves) at put
+
+-- ---- p2r
+module _ (ns : List ℕ) where
+  pub p2r-bad : (length ns ≡ 3 → ⊥) → p2rSaid ns ≡ badSaid
+  unfolding p2rSaid
+  p2r-bad ne = rw (ne-eqb (length ns) 3 ne)
+
+  pub p2r-call : length ns ≡ 3 → p2rSaid ns ≡ boundsSaid (boundsOf (getD ns 2 0) (getD ns 0 0) (getD ns 1 0))
+  unfolding p2rSaid
+  p2r-call e = rw (eq-eqb (length ns) 3 e)
+
+-- ---- r2p
+-- the answer and the run as the library left them
+pub expanded-is : (width low high : ℕ) (run : List ℕ) {count : Count} {after out : List ℕ} {at : ℕ} {last : List ℕ} {end most : ℕ}
+    → count ≡ expandOf width low high run → after ≡ runAfter width low high run
+    → PutFew most out at (countSaid count ++ bytes " run" ++ allSpaced after) last end → PutFew most out at (expandedSaid width low high run) last end
+expanded-is width low high run is is' put = rw (is, is') at put
+
+-- the run keeps its length
+room-told : (m : ℕ) (run : List ℕ) → stands (roomFault m run) ≡ true → m * 2 ≤ length run
+room-told m run = go (ltb (length run / 2) m) refl
+  where
+    go : (t : Bool) → ltb (length run / 2) m ≡ t → stands (pick t (refusedAt TooLittleRoom m 0) none) ≡ true → m * 2 ≤ length run
+    go true e is = never (cc)
+    go false e is = let le = ltb-false (length run / 2) m e in omega arith
+
+pub run-long : (w low high : ℕ) (run : List ℕ) → length (runAfter w low high run) ≡ length run
+run-long w low high run = go (stands (rangeFault w low high)) (stands (roomFault (length (prefixesOf w low high)) run)) refl refl
+  where
+    go : (s t : Bool) → stands (rangeFault w low high) ≡ s → stands (roomFault (length (prefixesOf w low high)) run) ≡ t → length (runAfter w low high run) ≡ length run
+    go true true p q = rw (p, q) (written-length (prefixesOf w low high) run (room-told (length (prefixesOf w low high)) run q))
+    go true false p q = rw (p, q)
+    go false t p q = rw (p, p)
+
+and-false : (s : Bool) → s and false ≡ false
+and-false true = refl
+and-false false = refl
+
+-- whether the numbers are as the word wants them
+module _ (ns : List ℕ) where
+  pub r2p-short : length ns < 4 → r2pStands ns ≡ false
+  unfolding r2pStands
+  r2p-short lt = rw (lt-leb 4 (length ns) lt)
+
+  pub r2p-long : 4 ≤ length ns → runMost < getD ns 3 0 → r2pStands ns ≡ false
+  unfolding r2pStands
+  r2p-long le lt = rw (le-leb 4 (length ns) le, lt-leb (getD ns 3 0) runMost lt)
+
+  pub r2p-cut : 4 ≤ length ns → getD ns 3 0 ≤ runMost → (length ns ≡ 4 + getD ns 3 0 → ⊥) → r2pStands ns ≡ false
+  unfolding r2pStands
+  r2p-cut le few ne = rw (le-leb 4 (length ns) le, le-leb (getD ns 3 0) runMost few, ne-eqb (length ns) (4 + getD ns 3 0) ne)
+
+  pub r2p-call : 4 ≤ length ns → getD ns 3 0 ≤ runMost → length ns ≡ 4 + getD ns 3 0 → r2pStands ns ≡ true
+  unfolding r2pStands
+  r2p-call le few e = rw (le-leb 4 (length ns) le, le-leb (getD ns 3 0) runMost few, eq-eqb (length ns) (4 + getD ns 3 0) e)
+
+  -- more numbers than the word takes
+  pub r2p-over : 204 < length ns → r2pStands ns ≡ false
+  unfolding r2pStands
+  r2p-over over = go (leb (getD ns 3 0) runMost) refl
+    where
+      go : (t : Bool) → leb (getD ns 3 0) runMost ≡ t → leb 4 (length ns) and leb (getD ns 3 0) runMost and eqb (length ns) (4 + getD ns 3 0) ≡ false
+      go true e =
+          let few = leb-true (getD ns 3 0) runMost e in
+          let enough : 4 ≤ length ns = omega arith in
+          rw (le-leb 4 (length ns) enough, e, ne-eqb (length ns) (4 + getD ns 3 0) (λ same. omega arith))
+      go false e = rw e (and-false (leb 4 (length ns)))
+
+-- what is answered and left, way by way
+module _ (ns : List ℕ) where
+  pub r2p-bad : r2pStands ns ≡ false → {most : ℕ} {out : List ℕ} {at : ℕ} {after : List ℕ} {end : ℕ} → PutFew most out at badSaid after end
+      → PutFew most out at (r2pSaid ns) after end × (ns ≡ r2pLeft ns)
+  r2p-bad e put = (rw e put, rw e refl)
+
+  pub r2p-made : 4 ≤ length ns → getD ns 3 0 ≤ runMost → length ns ≡ 4 + getD ns 3 0 → {left out : List ℕ} {at : ℕ} {after : List ℕ} {end : ℕ}
+      → PutFew (74 + 21 * length (take (length ns - 4) (drop 4 ns))) out at (expandedSaid (getD ns 2 0) (getD ns 0 0) (getD ns 1 0) (take (length ns - 4) (drop 4 ns))) after end
+      → left ≡ runAfter (getD ns 2 0) (getD ns 0 0) (getD ns 1 0) (take (length ns - 4) (drop 4 ns))
+      → PutFew (answerMost - 1) out at (r2pSaid ns) after end × (putMid 4 (length ns - 4) ns left ≡ r2pLeft ns)
+  r2p-made le few all {left} put is =
+      let stands = r2p-call ns le few all in
+      let size : length (take (length ns - 4) (drop 4 ns)) ≤ runMost = omega (arith, rest-long ns 4) in
+      let short : 74 + 21 * length (take (length ns - 4) (drop 4 ns)) ≤ answerMost - 1 = omega (arith, table-most) in (
+        rw (stands, ← rest-lent ns 4) (few-more short put),
+        rw stands (rest-back ns left 4 ∙ ap (λ run. take 4 ns ++ run) (is ∙ ap (runAfter (getD ns 2 0) (getD ns 0 0) (getD ns 1 0)) (rest-lent ns 4))),
+      )
+
+-- no word changes how many numbers a line has
+pub left-long : (ns : List ℕ) → length (r2pLeft ns) ≡ length ns
+left-long ns = go (r2pStands ns)
+  where
+    after : List ℕ
+    after = runAfter (getD ns 2 0) (getD ns 0 0) (getD ns 1 0) (drop 4 ns)
+
+    go : (t : Bool) → length (pick t (take 4 ns ++ after) ns) ≡ length ns
+    go true = omega (arith, length-append (take 4 ns) after, run-long (getD ns 2 0) (getD ns 0 0) (getD ns 1 0) (drop 4 ns), length-take 4 ns, length-drop 4 ns)
+    go false = refl

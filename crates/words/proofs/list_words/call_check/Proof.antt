@@ -1,0 +1,79 @@
+-- `words::list_words::call_check` meets its contract.
+-- Assumes nothing.
+use borrow.Author.Needs.{needs}
+use mathlib.Core.Path.{sym, _∙_}
+use native.Mathlib.Omega.{arith}
+use Rattle.words.proofs.Parts.{list-told}
+use Rattle.words.proofs.list_words.call_check.Statement.{statement}
+use Rattle.words.proofs.list_words.call_check.Tie as tie
+
+list-end-requires : tie.Need-list-end-requires
+list-end-requires c κs = search needs
+
+enum-known-end : tie.Need-enum-known-end
+enum-known-end c = search needs
+
+enum-told : tie.Need-enum-told
+enum-told c = search needs
+
+put-bad-requires : tie.Need-put-bad-requires
+put-bad-requires c κs = search needs
+
+same-length : tie.Need-same-length
+same-length c = search needs
+
+-- no such line
+returns : tie.Need-returns
+returns c = rw (sym (c .before .before .before .before .before .before .list-end .ensures) ∙ c .before .before .before .before .enum-told .given .1) (c .before .before .put-bad .ensures)
+
+shape-in-requires : tie.Need-shape-in-requires
+shape-in-requires c κs =
+    let l = list-told _ 0 (sym (c .before .before .before .list-end .ensures) ∙ c .before .end .given .1) in
+    omega arith
+
+sub-check-list : tie.Need-sub-check-list
+sub-check-list c =
+    let l = list-told _ 0 (sym (c .before .before .before .before .list-end .ensures) ∙ c .before .before .end .given .1) in
+    omega arith
+
+part-check-list-start : tie.Need-part-check-list-start
+part-check-list-start c =
+    let l = list-told _ 0 (sym (c .before .before .before .before .list-end .ensures) ∙ c .before .before .end .given .1) in
+    omega arith
+
+part-check-list-end : tie.Need-part-check-list-end
+part-check-list-end c =
+    let l = list-told _ 0 (sym (c .before .before .before .before .list-end .ensures) ∙ c .before .before .end .given .1) in
+    omega arith
+
+check-list-requires : tie.Need-check-list-requires
+check-list-requires c κs = search needs
+
+put-count-requires : tie.Need-put-count-requires
+put-count-requires c κs = search needs
+
+same-length-2 : tie.Need-same-length-2
+same-length-2 c = search needs
+
+-- the call
+returns-2 : tie.Need-returns-2
+returns-2 c = rw (sym (c .before .before .before .before .before .before .before .before .before .before .list-end .ensures) ∙ c .before .before .before .before .before .before .before .before .end .given .1, ← c .before .before .before .before .before .before .shape-in .ensures, ← c .before .before .before .before .check-list .ensures) (c .before .before .put-count .ensures)
+
+pub call-check-spec : {M : Type 1} → statement M
+call-check-spec =
+    tie.close
+    (tie.spec
+    list-end-requires
+    enum-known-end
+    enum-told
+    put-bad-requires
+    same-length
+    returns
+    shape-in-requires
+    sub-check-list
+    part-check-list-start
+    part-check-list-end
+    check-list-requires
+    put-count-requires
+    same-length-2
+    returns-2)

@@ -1,0 +1,48 @@
+-- `words::table_words::put_build` meets its contract: the count, the word, and the table as the library left it.
+-- Assumes nothing.
+use borrow.Author.Needs.{needs}
+use native.Mathlib.Omega.{arith}
+use Rattle.words.proofs.Few.{few-text, few-then, few-more}
+use Rattle.words.proofs.Words.{built-is}
+use Rattle.words.proofs.table_words.put_build.Statement.{statement}
+use Rattle.words.proofs.table_words.put_build.Tie as tie
+
+build-requires : tie.Need-build-requires
+build-requires c κs = search needs
+
+put-count-requires : tie.Need-put-count-requires
+put-count-requires c κs = search needs
+
+slice-aggregate-put-text : tie.Need-slice-aggregate-put-text
+slice-aggregate-put-text c = search needs
+
+put-text-requires : tie.Need-put-text-requires
+put-text-requires c κs = search needs
+
+put-table-requires : tie.Need-put-table-requires
+put-table-requires c κs = search needs
+
+same-length : tie.Need-same-length
+same-length c = search needs
+
+same-length-2 : tie.Need-same-length-2
+same-length-2 c = search needs
+
+returns : tie.Need-returns
+returns c =
+    let built = c .before .before .before .before .before .before .before .before .before .before .before .before .before .before .before .before in
+    let size = built .build .kept .1 .1 .0 in
+    few-more (omega arith) (built-is _ _ (built .build .ensures) (few-then (few-then (c .before .before .before .before .before .before .before .before .before .before .before .before .put-count .ensures) (few-text 6 (omega arith) (c .before .before .before .before .before .before .before .put-text .ensures))) (c .before .before .put-table .ensures)))
+
+pub put-build-spec : {M : Type 1} → statement M
+put-build-spec =
+    tie.close
+    (tie.spec
+    build-requires
+    put-count-requires
+    slice-aggregate-put-text
+    put-text-requires
+    put-table-requires
+    same-length
+    same-length-2
+    returns)

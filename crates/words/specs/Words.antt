@@ -1,0 +1,94 @@
+-- What each word answers, given the line's numbers after it, and what r2p leaves of them. LIST, TABLE and RUN are a length and then
+-- that many numbers. Where the numbers are not as the word wants them, the answer is bad.
+-- Assumes nothing: these are definitions.
+use Prim.Native.Nat.{ℕ, _+_}
+use mathlib.Core.List.{List, _++_}
+use mathlib.Core.Bool.{Bool}
+use lib.ListN.{length, getD, take, drop}
+use lib.Dec.{leb, eqb}
+use Rattle.ranges.specs.Numbers.{pick, _and_}
+use Rattle.ranges.specs.Prefixes.{boundsOf}
+use Rattle.ranges.specs.Blocks.{expandOf, runAfter}
+use Rattle.lists.specs.Headers.{headerLength}
+use Rattle.lists.specs.Check.{checkOf}
+use Rattle.lists.specs.Scan.{scanOf}
+use Rattle.lists.specs.Independence.{independenceOf}
+use Rattle.sorting.specs.Build.{buildOf, tableAfter, auditOf}
+use Rattle.tables.specs.Report.{reportOf}
+use Rattle.lookup.specs.Lookup.{lookupOf}
+use Rattle.lists.specs.Rules.{Rules}
+use Rattle.text.specs.Texts.{bytes}
+use Rattle.words.specs.Limits.{runMost}
+use Rattle.words.specs.Said.{allSpaced, countSaid, boundsSaid, matchSaid, pairSaid, foundSaid, verdictSaid, partSaid}
+use Rattle.words.specs.Parts.{fromTo, listEnd, onEnd, tableEnds, onEnds, rulesTo, headerAt}
+use Rattle.words.specs.declared.table_words.TableWord.{TableWord}
+use Rattle.words.specs.declared.table_words.TableWord.the-variants.{Build, Lookup, Audit, Report}
+
+-- bad
+abbrev pub badSaid : List ℕ
+badSaid = bytes "bad"
+
+-- check D LIST
+abbrev pub checkSaid : List ℕ → List ℕ
+checkSaid ns = onEnd (listEnd ns 0) (λ e. countSaid (checkOf (rulesTo e ns))) badSaid
+
+-- scan D LIST HEADER
+abbrev pub scanSaid : List ℕ → List ℕ
+scanSaid ns = onEnd (listEnd ns headerLength) (λ e. matchSaid (scanOf (rulesTo e ns) (headerAt e ns))) badSaid
+
+-- independent D LIST
+abbrev pub independentSaid : List ℕ → List ℕ
+independentSaid ns = onEnd (listEnd ns 0) (λ e. pairSaid (independenceOf (rulesTo e ns))) badSaid
+
+-- ---- build D LIST TABLE, lookup D LIST TABLE HEADER, audit D LIST TABLE, report D LIST TABLE P
+-- how many numbers follow the table
+abbrev pub following : TableWord → ℕ
+following Build = 0
+following Lookup = headerLength
+following Audit = 0
+following Report = 1
+
+-- ok B or the refusal, and then the table's numbers afterwards
+abbrev pub buildSaid : Rules → List ℕ → List ℕ
+buildSaid R T = countSaid (buildOf R T) ++ bytes " table" ++ allSpaced (tableAfter R T)
+
+abbrev pub lookupSaid : Rules → List ℕ → List ℕ → List ℕ
+lookupSaid R T h = foundSaid (lookupOf R T h)
+
+abbrev pub auditSaid : Rules → List ℕ → List ℕ
+auditSaid R T = verdictSaid (auditOf R T)
+
+abbrev pub reportSaid : Rules → List ℕ → ℕ → List ℕ
+reportSaid R T p = partSaid (reportOf R T p)
+
+-- what is answered of a list, a table and the numbers that follow
+abbrev pub tableSaid : TableWord → Rules → List ℕ → List ℕ → List ℕ
+tableSaid Build R T rest = buildSaid R T
+tableSaid Lookup R T rest = lookupSaid R T rest
+tableSaid Audit R T rest = auditSaid R T
+tableSaid Report R T rest = reportSaid R T (getD rest 0 0)
+
+abbrev pub tabledSaid : TableWord → List ℕ → List ℕ
+tabledSaid word ns =
+    onEnds (tableEnds ns (following word))
+    (λ e t. tableSaid word (rulesTo e ns) (fromTo (e + 1) t ns) (fromTo t (t + following word) ns))
+    badSaid
+
+-- ---- p2r VALUE LENGTH WIDTH
+unfoldable pub p2rSaid : List ℕ → List ℕ
+p2rSaid ns = pick (eqb (length ns) 3) (boundsSaid (boundsOf (getD ns 2 0) (getD ns 0 0) (getD ns 1 0))) badSaid
+
+-- ---- r2p LOW HIGH WIDTH RUN, the run's length and numbers from place 3 on
+-- the numbers are as the word wants them
+unfoldable pub r2pStands : List ℕ → Bool
+r2pStands ns = leb 4 (length ns) and leb (getD ns 3 0) runMost and eqb (length ns) (4 + getD ns 3 0)
+
+abbrev pub expandedSaid : ℕ → ℕ → ℕ → List ℕ → List ℕ
+expandedSaid width low high run = countSaid (expandOf width low high run) ++ bytes " run" ++ allSpaced (runAfter width low high run)
+
+abbrev pub r2pSaid : List ℕ → List ℕ
+r2pSaid ns = pick (r2pStands ns) (expandedSaid (getD ns 2 0) (getD ns 0 0) (getD ns 1 0) (drop 4 ns)) badSaid
+
+-- the line's numbers afterwards: the run as the library left it; where the answer is bad, as they were
+abbrev pub r2pLeft : List ℕ → List ℕ
+r2pLeft ns = pick (r2pStands ns) (take 4 ns ++ runAfter (getD ns 2 0) (getD ns 0 0) (getD ns 1 0) (drop 4 ns)) ns

@@ -1,0 +1,67 @@
+// The calls of prefixes and ranges. `given` holds the line's numbers after the word.
+use crate::limits::RUN_MOST;
+use crate::say::put_all;
+use crate::say::put_bad;
+use crate::say::put_bounds;
+use crate::say::put_count;
+use ranges::expand::range_to_prefixes;
+use ranges::prefix::prefix_to_range;
+use text::put::put_text;
+ghost use Prim.Native.Nat.{_+_, _-_, _*_};
+ghost use mathlib.Core.Path.{_≡_};
+ghost use lib.ListN.{length};
+ghost use Rattle.ranges.specs.Blocks.{runAfter};
+ghost use Rattle.words.specs.Limits.{answerMost};
+ghost use Rattle.words.specs.Few.{PutFew};
+ghost use Rattle.words.specs.Words.{p2rSaid, expandedSaid, r2pSaid, r2pLeft};
+
+// p2r VALUE LENGTH WIDTH: puts the prefix's low and high end, or the refusal.
+pub fn call_p2r(given: &[u32], out: &mut [u8], at: usize) -> usize
+    ensures { λ r. ⌜ PutFew 70 (now (out .entry)) at (p2rSaid (now (given .entry))) (now (out .exit)) r ⌝ }
+{
+    if given.len() != 3 {
+        return put_bad(out, at);
+    }
+    let bounds = prefix_to_range(given[2], given[0], given[1]);
+    put_bounds(bounds, out, at)
+}
+
+// Puts how many prefixes a range has, or the refusal, and then the run's numbers afterwards; the library writes the run.
+fn put_expanded(
+    width: u32,
+    low: u32,
+    high: u32,
+    run: &mut [u32],
+    out: &mut [u8],
+    at: usize,
+) -> usize
+    ensures { λ r. ⌜ PutFew (74 + 21 * length (now (run .entry))) (now (out .entry)) at (expandedSaid width low high (now (run .entry))) (now (out .exit)) r ⌝ }
+    ensures { λ _. ⌜ now (run .exit) ≡ runAfter width low high (now (run .entry)) ⌝ }
+{
+    let count = range_to_prefixes(width, low, high, run);
+    let a = put_count(count, out, at);
+    let b = put_text(b" run", out, a);
+    put_all(run, out, b)
+}
+
+// r2p LOW HIGH WIDTH RUN: puts how many prefixes the range has, or the refusal, and the run afterwards. The run is
+// written where it stands in the line's numbers; where the answer is bad, they stay.
+pub fn call_r2p(given: &mut [u32], out: &mut [u8], at: usize) -> usize
+    ensures { λ r. ⌜ PutFew (answerMost - 1) (now (out .entry)) at (r2pSaid (now (given .entry))) (now (out .exit)) r ⌝ }
+    ensures { λ _. ⌜ now (given .exit) ≡ r2pLeft (now (given .entry)) ⌝ }
+{
+    if given.len() < 4 {
+        return put_bad(out, at);
+    }
+    let k = given[3] as usize;
+    if RUN_MOST < k {
+        return put_bad(out, at);
+    }
+    if given.len() != 4 + k {
+        return put_bad(out, at);
+    }
+    let width = given[2];
+    let low = given[0];
+    let high = given[1];
+    put_expanded(width, low, high, &mut given[4..], out, at)
+}
