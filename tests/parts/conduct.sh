@@ -106,4 +106,5 @@ conduct_gateway() {
     judge $? 'gateway does its work where standard input is closed'
     conduct_unreadable
     conduct_pipes
+    conduct_messages
 }
