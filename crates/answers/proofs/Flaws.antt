@@ -1,4 +1,4 @@
--- Laws of the headers file byte by byte (`specs/HeaderBytes.antt`, `specs/HeaderLines.antt`), way by way.
+-- Laws of the flaw of a header line, its answer and its count (`specs/HeaderLines.antt`, `specs/Counts.antt`), way by way.
 --     flaw-feed, flaw-bad, flaw-none, flaw-other         why a line is refused
 --     said-refused, said-looked                          what is printed for it
 --     up-more, up-stays                                  a count
@@ -42,7 +42,7 @@ module _ (d : ℕ) (feed : Bool) (bad k : ℕ) where
 module _ (R : Rules) (T : List ℕ) (flaw : HeaderFlaw) (h : List ℕ) where
   pub said-refused : isRefused flaw ≡ true → answerSaid R T flaw h ≡ refusedSaid 8
   unfolding answerSaid
-  said-refused yes' = rw yes'
+  said-refused refused = rw refused
 
   pub said-looked : isRefused flaw ≡ false → answerSaid R T flaw h ≡ lookedSaid (lookupOf R T h)
   unfolding answerSaid

@@ -1,7 +1,7 @@
 -- Scaffolding: only contracts of private functions cite this; nothing here has to be believed.
 -- The headers file byte by byte, as the code goes: what has been read of it, held by value, the header that its numbers go
 -- to, and what has been printed. Each line is read by the reader of the crate text and answered at its end. That this comes
--- to what `HeaderLines.antt` says of the file's lines is `headers-read` of `proofs/HeadersRead.antt`.
+-- to what `HeaderLines.antt` of the crate answers says of the file's lines is `headers-read` of `proofs/HeadersRead.antt`.
 -- Assumes nothing: these are definitions.
 use Prim.Native.Nat.{ℕ, _+_, _≤_, _<_}
 use mathlib.Core.List.{List, [], _++_}
