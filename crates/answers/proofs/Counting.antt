@@ -9,7 +9,7 @@ use native.Mathlib.Omega.{arith}
 use lib.ListN.{length}
 use Rattle.ranges.specs.Numbers.{pick}
 use Rattle.answers.specs.HeaderLines.{isRefused, flawOn, refusedIn, firstIn, whyIn}
-use Rattle.answers.specs.Counts.{headersSoFar, noLines, oneUp, countedBy}
+use Rattle.answers.specs.Counts.{headersSoFar, noLines, mostCount, oneUp, countedBy}
 use Rattle.answers.specs.declared.answer.HeaderFlaw.{HeaderFlaw}
 use Rattle.answers.specs.declared.answer.HeaderFlaw.the-variants.{Nothing}
 use Rattle.answers.specs.declared.count.HeadersSoFar.{HeadersSoFar}
@@ -18,10 +18,6 @@ use Rattle.answers.proofs.Flaws.{up-more, counted-fine, counted-first, 
 abbrev pub counts : ℕ → HeadersSoFar → List (List ℕ) → HeadersSoFar
 counts d h [] = h
 counts d h (l ∷ ls) = counts d (countedBy h (flawOn d l)) ls
-
--- the most that a word counts
-abbrev pub mostCount : ℕ
-mostCount = 18446744073709551615
 
 -- after a line that was refused: its number and its flaw stay
 counts-later : (d : ℕ) (ls : List (List ℕ)) (i r f : ℕ) (w : HeaderFlaw) → 1 ≤ r → r ≤ i → i + length ls ≤ mostCount

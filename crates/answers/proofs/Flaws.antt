@@ -13,7 +13,7 @@ use Rattle.lists.specs.Rules.{Rules}
 use Rattle.lookup.specs.Lookup.{lookupOf}
 use Rattle.answers.specs.Said.{refusedSaid, lookedSaid}
 use Rattle.answers.specs.HeaderLines.{headerFlaw, isRefused, answerSaid}
-use Rattle.answers.specs.Counts.{headersSoFar, oneUp, countedBy}
+use Rattle.answers.specs.Counts.{headersSoFar, mostCount, oneUp, countedBy}
 use Rattle.answers.specs.declared.answer.HeaderFlaw.{HeaderFlaw}
 use Rattle.answers.specs.declared.answer.HeaderFlaw.the-variants.{Nothing, NotNumber, LoneFeed, OtherWidth}
 use Rattle.answers.specs.declared.count.HeadersSoFar.{HeadersSoFar}
@@ -49,13 +49,13 @@ module _ (R : Rules) (T : List ℕ) (flaw : HeaderFlaw) (h : List ℕ) where
   said-looked fine = rw fine
 
 -- ---- a count
-pub up-more : (n : ℕ) → n < 18446744073709551615 → oneUp n ≡ n + 1
+pub up-more : (n : ℕ) → n < mostCount → oneUp n ≡ n + 1
 unfolding oneUp
-up-more n few = rw (lt-ltb n 18446744073709551615 few)
+up-more n few = rw (lt-ltb n mostCount few)
 
-pub up-stays : (n : ℕ) → 18446744073709551615 ≤ n → oneUp n ≡ n
+pub up-stays : (n : ℕ) → mostCount ≤ n → oneUp n ≡ n
 unfolding oneUp
-up-stays n many = rw (le-ltb n 18446744073709551615 many)
+up-stays n many = rw (le-ltb n mostCount many)
 
 -- ---- a line that has ended is counted; l is the count of lines then
 module _ (h : HeadersSoFar) (flaw : HeaderFlaw) {l : ℕ} (up : l ≡ oneUp (h .lines)) where

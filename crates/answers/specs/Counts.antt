@@ -16,9 +16,13 @@ headersSoFar lines refused first flaw = record { lines = lines; refused = refuse
 abbrev pub noLines : HeadersSoFar
 noLines = headersSoFar 0 0 0 Nothing
 
--- one more, up to where a word ends
+-- the most that a word counts
+abbrev pub mostCount : ℕ
+mostCount = 18446744073709551615
+
+-- one more, up to there
 unfoldable pub oneUp : ℕ → ℕ
-oneUp n = pick (ltb n 18446744073709551615) (n + 1) n
+oneUp n = pick (ltb n mostCount) (n + 1) n
 
 -- a line that has ended is counted
 unfoldable pub countedBy : HeadersSoFar → HeaderFlaw → HeadersSoFar

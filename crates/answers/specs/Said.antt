@@ -27,7 +27,11 @@ lookedSaid (Rule i t) = decimalOf i ++ testsSaid t
 lookedSaid (Nothing t) = bytes "none" ++ testsSaid t
 lookedSaid (Refused x) = refusedSaid (x .number)
 
--- a line of at most 64 bytes, put from a place of a run on
+-- the most bytes of a line, its CRLF counted
+abbrev pub lineMost : ℕ
+lineMost = 64
+
+-- a line, put from a place of a run on
 pub record PutLine (out : List ℕ) (at : ℕ) (line : List ℕ) (after : List ℕ) (next : ℕ) : Type 0 where
   pub put : Put out at line after next
-  pub short : length line ≤ 64
+  pub short : length line ≤ lineMost

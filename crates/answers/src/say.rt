@@ -1,5 +1,5 @@
 // Output lines, put at a place of a lent run: each function answers the place after its line. A line ends in CRLF and has
-// at most 64 bytes.
+// at most `LINE_MOST` bytes.
 use lookup::lookup::Looked;
 use text::put::put_byte;
 use text::put::put_number;
@@ -8,6 +8,9 @@ ghost use Prim.Native.Nat.{_≤_};
 ghost use lib.ListN.{length};
 ghost use Rattle.text.specs.Puts.{Put};
 ghost use Rattle.answers.specs.Said.{headSaid, refusedSaid, testsSaid, lookedSaid, PutLine};
+
+// The most bytes of a line, its CRLF counted.
+pub const LINE_MOST: usize = 64;
 
 // Puts the first line: rule,tests.
 pub fn put_head(out: &mut [u8], at: usize) -> usize

@@ -11,10 +11,9 @@ use Rattle.ranges.proofs.OneAnswer.{OneAnswer, OneRun}
 use Rattle.text.specs.Cells.{fed}
 use Rattle.text.specs.Puts.{Put}
 use Rattle.words.proofs.Determined.{place-one, bytes-one}
-use Rattle.calls.specs.declared.line.Line.{Line}
 use Rattle.calls.specs.declared.reply.Place.{Place}
 use Rattle.calls.specs.Lines.{Heard, heard}
-use Rattle.calls.specs.Replies.{servedByte, saidTo, ServedLines, ServedLast}
+use Rattle.calls.specs.Replies.{servedByte, saidTo, ServedLines}
 use Rattle.calls.proofs.line.line_start.Kinds as line-start-kinds
 use Rattle.calls.proofs.line.line_start.Reads as line-start
 use Rattle.calls.proofs.line.hear.Kinds as hear-kinds

@@ -18,10 +18,10 @@ use lib.Seq.{sets, sets-eq, length-sets, take-at, length-take-le}
 use Rattle.ranges.specs.Numbers.{pick}
 use Rattle.text.specs.Cells.{fed}
 use Rattle.text.specs.Puts.{Put, placeAfter}
-use Rattle.text.specs.Rows.{fresh, inFront, cellsIn, allNumbers, valuesOf, manyMore, Reading, begin, ended, within, readByte, readCells}
+use Rattle.text.specs.Rows.{fresh, inFront, cellsIn, allNumbers, valuesOf, Reading, begin, ended, within, readByte, readCells}
 use Rattle.text.proofs.Puts.{put-then}
 use Rattle.text.proofs.Rows.{row-is}
-use Rattle.text.proofs.Counted.{cells-good, cells-count, cells-run, cells-long, many-few, many-large, values-length}
+use Rattle.text.proofs.Counted.{cells-good, cells-count, cells-run, cells-long, many-either, values-length}
 use Rattle.words.specs.Limits.{lineRoom, nameRoom}
 use Rattle.calls.specs.Lines.{Heard, heard, unheard, lineOf, numberEnds, numberTakes, nameEnds, nameTakes, heardByte}
 use Rattle.calls.specs.Names.{wordOf}
@@ -138,24 +138,13 @@ module _ (name numbers : List ℕ) (long : length name ≡ nameRoom) (many : len
 
   come-few : (cs : List (List ℕ)) → length cs ≤ lineRoom → come cs .row .cells ≡ length cs
   come-few cs few =
-      let exact : manyMore 0 cs ≡ 0 + length cs = many-few cs 0 (omega (arith, table-most)) in
-      omega (arith, cells-count 0 (begin numbers) cs)
+      cells-count 0 (begin numbers) cs
+      ∙ many-either cs (λ exact. exact) (λ large past parity. absurd (omega (arith, table-most)))
 
   come-over : (cs : List (List ℕ)) → lineRoom < length cs → lineRoom < come cs .row .cells
-  come-over cs over = go (leb (length cs) 65536) refl
-    where
-      count : come cs .row .cells ≡ manyMore 0 cs
-      count = cells-count 0 (begin numbers) cs
-
-      go : (t : Bool) → leb (length cs) 65536 ≡ t → lineRoom < come cs .row .cells
-      go true e =
-          let few = leb-true (length cs) 65536 e in
-          let same : manyMore 0 cs ≡ 0 + length cs = many-few cs 0 (omega arith) in
-          omega (arith, count)
-      go false e =
-          let more = leb-false (length cs) 65536 e in
-          let large : 65535 ≤ manyMore 0 cs = many-large cs 0 (omega arith) (omega arith) in
-          omega (arith, count, table-most)
+  come-over cs over =
+      let count = cells-count 0 (begin numbers) cs in
+      many-either cs (λ exact. omega (arith, count)) (λ large past parity. omega (arith, count, table-most))
 
   -- a name and its cells, each way
   cells-answered : (w : List ℕ) (cs : List (List ℕ))

@@ -8,7 +8,7 @@ use mathlib.Core.Bool.{Bool, true, false, not}
 use mathlib.Core.List.{List, [], _∷_, _++_, append-assoc, append-nil}
 use mathlib.Core.Path.{_≡_, refl, sym, ap, _∙_}
 use native.Mathlib.Omega.{arith}
-use borrow.Author.Tests.{eqb-true, eqb-false, eq-eqb, ne-eqb}
+use borrow.Author.Tests.{eqb-true, eqb-false}
 use lib.Dec.{eqb}
 use lib.ListN.{length, take, drop, replicate}
 use lib.Seq.{sets, sets-eq, take-append-add}
@@ -20,9 +20,9 @@ use Rattle.text.specs.Cells.{fed}
 use Rattle.text.specs.Files.{linesOf}
 use Rattle.text.specs.Rows.{allNumbers, valuesOf, manyMore, badIn, begin, readCells}
 use Rattle.text.specs.Lines.{cellsOf, feedIn, wholeLine}
-use Rattle.text.specs.Judging.{Judged, judged, judgedLines}
+use Rattle.text.specs.Judging.{judged, judgedLines}
 use Rattle.text.proofs.Rows.{bad-first}
-use Rattle.text.proofs.Counted.{cells-bad, bad-none, cells-count, cells-run, values-length, many-few, many-same}
+use Rattle.text.proofs.Counted.{cells-bad, bad-none, cells-count, cells-run, values-length, many-same}
 use Rattle.text.proofs.Judging.{judged-is}
 use Rattle.answers.specs.Said.{refusedSaid, lookedSaid}
 use Rattle.answers.specs.Counts.{noLines, countedBy}

@@ -9,11 +9,10 @@ use Rattle.text.specs.Cells.{fed}
 use Rattle.text.specs.Files.{InFile}
 use Rattle.text.specs.Judging.{Over}
 use Rattle.text.proofs.Feeding.{fed-append}
-use Rattle.text.proofs.Files.{mapInFile}
 use Rattle.gateway.specs.HeaderBytes.{Answered, headersStep, headersEnd}
 use Rattle.gateway.specs.Serving.{quiet}
 use Rattle.gateway.specs.Program.{piecesSaid}
-use Rattle.gateway.proofs.Printing.{prefixed, fed-prefixed}
+use Rattle.gateway.proofs.Printing.{fed-prefixed}
 use Rattle.gateway.proofs.Serving.{said-front, end-front}
 
 module _ (R : Rules) (T : List ℕ) where

@@ -6,7 +6,7 @@
 --     end-stays, end-answered                   the file's end
 -- Assumes nothing.
 use Prim.Native.Nat.{ℕ, _+_, _-_, _≤_, _<_}
-use mathlib.Core.Bool.{Bool, true, false}
+use mathlib.Core.Bool.{true, false}
 use mathlib.Core.List.{List, [], _++_, append-assoc, append-nil}
 use mathlib.Core.Path.{_≡_, refl, sym, ap, _∙_, subst}
 use native.Mathlib.Omega.{arith}
@@ -14,17 +14,16 @@ use lib.ListN.{length, take, drop, length-append}
 use Rattle.lists.specs.Rules.{Rules}
 use Rattle.lists.specs.Headers.{zeros}
 use Rattle.text.specs.Cells.{fed}
-use Rattle.text.specs.Files.{InFile, inFile, lineIn}
-use Rattle.text.specs.Lines.{noBytes, noLine, LineNow, lineNow, TookLine, TookLast}
-use Rattle.text.specs.Judging.{Over, over, overByte, overClose, overIn, overEnd, anew}
-use Rattle.text.specs.Puts.{Put}
+use Rattle.text.specs.Files.{InFile, inFile}
+use Rattle.text.specs.Lines.{noBytes, noLine, lineNow, TookLine, TookLast}
+use Rattle.text.specs.Judging.{Over, over, overByte, overClose}
 use Rattle.text.specs.declared.line.Reader.{Reader}
 use Rattle.text.specs.declared.line.LineRead.{LineRead}
 use Rattle.text.proofs.Feeding.{fed-on}
 use Rattle.text.proofs.Files.{line-on, mapInFile, fed-map}
 use Rattle.text.proofs.Judging.{over-open, over-ends, over-stays, over-last}
 use Rattle.text.proofs.Puts.{put-no-byte, put-then, put-long, put-place}
-use Rattle.answers.specs.Said.{PutLine}
+use Rattle.answers.specs.Said.{lineMost, PutLine}
 use Rattle.answers.specs.HeaderLines.{answerSaid}
 use Rattle.answers.specs.Counts.{countedBy}
 use Rattle.gateway.specs.HeaderBytes.{Answered, answered, flawHere, headerAt, judgeHeader, headersInFile, headersStep, headersFed, headersEnd, Wrote, Printed, HeadersTook, HeadersPiece, HeadersEnd}
@@ -39,7 +38,7 @@ module _ {out : List ℕ} {at : ℕ} where
   wrote-none within = record { put = put-no-byte; fits = omega arith }
 
   -- a line, where there is room for one
-  pub line-wrote : {bs after : List ℕ} {next : ℕ} → PutLine out at bs after next → at + 64 ≤ length out → Wrote out at bs after next
+  pub line-wrote : {bs after : List ℕ} {next : ℕ} → PutLine out at bs after next → at + lineMost ≤ length out → Wrote out at bs after next
   line-wrote line room = record { put = line .put; fits = omega (arith, line .short) }
 
   pub wrote-then : {xs mid : List ℕ} {p : ℕ} {ys after : List ℕ} {q : ℕ} → Wrote out at xs mid p → Wrote mid p ys after q → Wrote out at (xs ++ ys) after q
@@ -48,10 +47,7 @@ module _ {out : List ℕ} {at : ℕ} where
       let long = put-long (first .put) in
       record { put = put-then (first .put) (second .put); fits = omega (arith, second .fits, length-append xs ys) }
 
-  -- the next place lies within the run, and the run keeps its length
-  pub wrote-within : {bs after : List ℕ} {next : ℕ} → Wrote out at bs after next → next ≤ length out
-  wrote-within wrote = omega (arith, put-place (wrote .put) (wrote .fits), wrote .fits)
-
+  -- the run keeps its length
   pub wrote-long : {bs after : List ℕ} {next : ℕ} → Wrote out at bs after next → length after ≡ length out
   wrote-long wrote = put-long (wrote .put)
 
@@ -64,7 +60,7 @@ printed-none {s} {f} {header} {out} {at} is within =
     record { reads = ap (headersInFile f header) none ∙ is; prints = rw none (wrote-none within) }
 
 module _ (R : Rules) (T : List ℕ) (f : HeadersFile) (bytes header out : List ℕ) (at : ℕ) {read : LineRead} {left : List ℕ} (took : TookLine 0 (f .reader) bytes header read left) where
-  pub took-open : read .ended ≡ false → at + 64 ≤ length out
+  pub took-open : read .ended ≡ false → at + lineMost ≤ length out
       → HeadersTook R T f bytes header out at (record { file = record { reader = read .reader; headers = f .headers }; used = read .used; at = at }) left out
   took-open goes room =
       record {
@@ -72,7 +68,7 @@ module _ (R : Rules) (T : List ℕ) (f : HeadersFile) (bytes header out : List �
         printed = printed-none (over-open headerAt (judgeHeader R T) (answered (f .headers) []) (f .reader) bytes header took goes) (omega arith);
       }
 
-  pub took-ends : read .ended ≡ true → at + 64 ≤ length out → {flaw : HeaderFlaw} {after : List ℕ} {next : ℕ} {start : Reader} {headers : HeadersSoFar}
+  pub took-ends : read .ended ≡ true → at + lineMost ≤ length out → {flaw : HeaderFlaw} {after : List ℕ} {next : ℕ} {start : Reader} {headers : HeadersSoFar}
       → flaw ≡ flawHere R (read .reader .line) → PutLine out at (answerSaid R T flaw left) after next → start ≡ noBytes → headers ≡ countedBy (f .headers) flaw
       → HeadersTook R T f bytes header out at (record { file = record { reader = start; headers = headers }; used = read .used; at = next }) zeros after
   took-ends ends room {flaw} {after} {next} {start} {headers} why line begins counts =
@@ -101,10 +97,10 @@ fed-prefixed R T p s bs = fed-map (overByte headerAt) (overClose headerAt (judge
 pub record Going (R : Rules) (T : List ℕ) (f : HeadersFile) (bytes header out : List ℕ) (present : HeadersFile) (left now : List ℕ) (place i : ℕ) : Type 0 where
   pub within : i ≤ length bytes
   pub printed : Printed (headersFed R T f header (take i bytes)) present left out 0 now place
-  pub room : place + 64 ≤ length out
+  pub room : place + lineMost ≤ length out
 
 module _ (R : Rules) (T : List ℕ) (f : HeadersFile) (bytes header out : List ℕ) where
-  pub going-start : 64 ≤ length out → Going R T f bytes header out f header out 0 0
+  pub going-start : lineMost ≤ length out → Going R T f bytes header out f header out 0 0
   going-start room = record { within = omega arith; printed = printed-none refl (omega arith); room = omega arith }
 
   -- the bytes of one line more
@@ -143,11 +139,11 @@ module _ (R : Rules) (T : List ℕ) (f : HeadersFile) (bytes header out : List �
           }
 
       -- there is
-      pub going-more : r .at + 64 ≤ length out → Going R T f bytes header out (r .file) left' after (r .at) (i + r .used)
+      pub going-more : r .at + lineMost ≤ length out → Going R T f bytes header out (r .file) left' after (r .at) (i + r .used)
       going-more room = record { within = line-taken .1; printed = printed-more i (r .used) (going .printed) (took .printed); room = room }
 
 -- ---- the file's end
-module _ (R : Rules) (T : List ℕ) (f : HeadersFile) (header out : List ℕ) {read : LineRead} {left : List ℕ} (took : TookLast 0 (f .reader) header read left) (room : 64 ≤ length out) where
+module _ (R : Rules) (T : List ℕ) (f : HeadersFile) (header out : List ℕ) {read : LineRead} {left : List ℕ} (took : TookLast 0 (f .reader) header read left) (room : lineMost ≤ length out) where
   pub end-stays : read .ended ≡ false → HeadersEnd R T f header out (record { headers = f .headers; at = 0 }) out
   end-stays none =
       let is = ap (λ x. x .own) (over-stays headerAt (judgeHeader R T) (answered (f .headers) []) (f .reader) header took none) in

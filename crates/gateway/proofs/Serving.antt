@@ -1,12 +1,12 @@
 -- Laws of what the functions that read, hand on and write leave (`specs/Serving.antt`).
 --     readied-bytes                                           what was read
---     ended-are, ended-missing                                the rules file has ended
 --     RulesOn, on-start, on-more, on-flawed, on-ended         its pieces, one after the other
 --     said-front, end-front, quiet-fed, quiet-end             what was printed before does not matter
 --     TurnOn, turn-start, turn-more, turn-all, turn-some      the bytes of one read
 --     HeadersOn, headers-start, headers-more, headers-ended   the headers file's pieces, one after the other
+--     read-at-front                                           answered by what stands at the front of what is lent
 -- Assumes nothing.
-use Prim.Native.Nat.{ℕ, _+_, _-_, _≤_, _<_}
+use Prim.Native.Nat.{ℕ, _+_, _-_, _/_, _≤_, _<_}
 use mathlib.Core.Bool.{Bool, true, false}
 use mathlib.Core.List.{List, [], _∷_, _++_, flatten, append-assoc, append-nil}
 use mathlib.Core.Path.{_≡_, refl, sym, ap, _∙_, subst}
@@ -16,24 +16,25 @@ use lib.ListN.{length, take, drop, length-drop}
 use lib.Seq.{take-all}
 use Rattle.ranges.specs.Numbers.{pick}
 use Rattle.ranges.proofs.Numbers.{true-not-false}
-use Rattle.lists.specs.Rules.{Rules}
+use Rattle.lists.specs.Rules.{Rules, listed, shapeOf}
+use Rattle.lists.specs.declared.shape.Shape.{Shape}
 use Rattle.text.specs.Cells.{fed}
 use Rattle.text.specs.Files.{InFile, inFile, finish, lastLine}
 use Rattle.text.specs.Judging.{judged, Over, over, overByte, overClose, overBegun}
 use Rattle.text.proofs.Feeding.{rest-is, fed-append, fed-on}
-use Rattle.text.proofs.Files.{mapInFile, fed-map, finish-map}
+use Rattle.text.proofs.Files.{mapInFile, finish-map}
 use Rattle.rulesfile.specs.Flaws.{flawless}
 use Rattle.flaws.specs.Numbered.{flawNumber}
 use Rattle.rulesfile.specs.Bytes.{noRules, rulesInFile, rulesStep, rulesEnd, rulesPieces}
+use Rattle.rulesfile.specs.Tabled.{lengthRead, listRead, roomRead}
 use Rattle.rulesfile.specs.declared.file.RulesSoFar.{RulesSoFar}
 use Rattle.rulesfile.specs.declared.file.RulesFile.{RulesFile}
 use Rattle.gateway.specs.HeaderBytes.{noHeaders, Answered, answered, headerAt, judgeHeader, headersInFile, headersStep, headersFed, headersEnd, HeadersPiece}
-use Rattle.gateway.specs.Serving.{Readied, RulesEnded, RulesFrom, RulesReadFrom, quiet, TurnTook, HeadersEnded, headersAfter, HeadersFrom, HeadersSome, HeadersReadFrom}
+use Rattle.gateway.specs.Serving.{Readied, RulesOver, RulesEnded, RulesFrom, RulesReadFrom, quiet, TurnTook, HeadersOver, HeadersEnded, headersAfter, HeadersFrom, HeadersReadFrom}
 use Rattle.gateway.specs.declared.input.Got.{Got}
-use Rattle.gateway.specs.declared.input.Got.the-variants.{Bytes}
+use Rattle.gateway.specs.declared.input.Got.the-variants.{Bytes, End, Folder, Failed}
 use Rattle.gateway.specs.declared.read_rules.RulesRead.{RulesRead}
-use Rattle.gateway.specs.declared.read_rules.RulesRead.the-variants.{Are as RulesAre, Missing, Failed as NoRules}
-use Rattle.answers.specs.declared.count.HeadersSoFar.{HeadersSoFar}
+use Rattle.gateway.specs.declared.read_rules.RulesRead.the-variants.{Are as RulesAre, Failed as NoRules}
 use Rattle.gateway.specs.declared.headers.HeadersFile.{HeadersFile}
 use Rattle.gateway.specs.declared.headers.Progress.{Progress}
 use Rattle.gateway.specs.declared.answer_headers.Turn.{Turn}
@@ -57,10 +58,16 @@ module _ (list : List ℕ) where
 
   module _ {file : RulesFile} {left : List ℕ} (before : RulesOn list file left) where
     -- the file's end
-    pub on-ended : (r : RulesRead) (after : List ℕ) → RulesEnded file left r after → RulesReadFrom list r after
-    on-ended (RulesAre rules) after ends = record { pieces = before .pieces ++ []; are = ends ∙ sym (before .on []) }
-    on-ended (Missing rules) after ends = record { pieces = before .pieces ++ []; are = ends ∙ sym (before .on []) }
-    on-ended NoRules after ends = tt
+    on-over : (said : Bool) (r : RulesRead) (after : List ℕ) → RulesOver file left said r after → RulesReadFrom list r after
+    on-over said (RulesAre rules told) after ends = record { pieces = before .pieces ++ []; are = ends .0 ∙ sym (before .on []) }
+    on-over said NoRules after ends = tt
+
+    pub on-ended : (got : Got) (r : RulesRead) (after : List ℕ) → RulesEnded got file left r after → RulesReadFrom list r after
+    on-ended (Bytes k) r after ends = on-over false r after ends
+    on-ended End r after ends = on-over false r after ends
+    on-ended Folder r after ends = on-over true r after ends
+    on-ended Failed (RulesAre rules told) after ends = absurd ends
+    on-ended Failed NoRules after ends = tt
 
     module _ (p : List ℕ) {next : RulesFile} {after : List ℕ} (read : rulesInFile next after ≡ fed rulesStep (rulesInFile file left) p) where
       -- a piece without flaw
@@ -166,14 +173,22 @@ module _ (R : Rules) (T header : List ℕ) where
   headers-none is = record { pieces = []; are = ap (λ f. f .headers) is }
 
   module _ {n : ℕ} {file : HeadersFile} {left out : List ℕ} (before : HeadersOn R T header n file left out) where
-    pub headers-ended : (r : HeadersRead) → HeadersEnded R T file left r → HeadersReadFrom R T header r
-    headers-ended (HeadersAre headers) ends =
+    headers-over : (r : HeadersRead) → HeadersOver R T file left r → HeadersReadFrom R T header r
+    headers-over (HeadersAre headers) ends =
         record {
           pieces = before .pieces;
           are = ends ∙ ap (λ s. headersEnd R T s .headers) (before .state) ∙ sym (quiet-end R T (headersAfter R T header (before .pieces)));
         }
-    headers-ended (Stopped headers) ends = record { pieces = before .pieces; are = ends ∙ ap (λ s. s .at .own .headers) (before .state) }
-    headers-ended NoHeaders ends = tt
+    headers-over (Stopped headers) ends = absurd ends
+    headers-over NoHeaders ends = tt
+
+    pub headers-ended : (got : Got) (r : HeadersRead) → HeadersEnded got R T file left r → HeadersReadFrom R T header r
+    headers-ended (Bytes k) r ends = headers-over r ends
+    headers-ended End r ends = headers-over r ends
+    headers-ended Folder r ends = headers-over r ends
+    headers-ended Failed (HeadersAre headers) ends = absurd ends
+    headers-ended Failed (Stopped headers) ends = record { pieces = before .pieces; are = ends ∙ ap (λ s. s .at .own .headers) (before .state) }
+    headers-ended Failed NoHeaders ends = absurd ends
 
     pub headers-more : (p : List ℕ) {r : Turn} {left' after : List ℕ} → TurnTook R T file p left r left' → r .going ≡ true → length after ≡ length out
         → HeadersOn R T header n (r .file) left' after
@@ -191,3 +206,12 @@ module _ (R : Rules) (T header : List ℕ) where
               ∙ ap quiet (sym (fed-append (headersStep R T) (headersInFile noHeaders header []) (flatten (before .pieces)) p))
               ∙ ap (λ bs. quiet (fed (headersStep R T) (headersInFile noHeaders header []) bs)) (flatten-more (before .pieces) p);
         }
+
+-- by the list and the table at the front of what is lent, whose lengths the code works out
+pub read-at-front : (rules : RulesSoFar) (list table header : List ℕ) (r : HeadersRead) {shape : Shape} {k t : ℕ}
+    → shape ≡ shapeOf (rules .width / 2) → k ≡ lengthRead rules list → t ≡ roomRead rules table
+    → HeadersReadFrom (listed shape (take k list)) (take t table) header r → HeadersReadFrom (listRead rules list) (take (roomRead rules table) table) header r
+read-at-front rules list table header r {shape} {k} {t} shaped long room reads =
+    let R-is : listed shape (take k list) ≡ listRead rules list = ap (λ s. listed s (take k list)) shaped ∙ ap (λ n. listed (shapeOf (rules .width / 2)) (take n list)) long in
+    subst (λ R. HeadersReadFrom R (take (roomRead rules table) table) header r) R-is
+    (subst (λ n. HeadersReadFrom (listed shape (take k list)) (take n table) header r) room reads)

@@ -17,12 +17,12 @@
 -- Assumes nothing.
 use Prim.Native.Nat.{ℕ, _≤_}
 use mathlib.Core.Bool.{Bool, true, false}
-use mathlib.Core.List.{List, [], _∷_, _++_, flatten, append-nil}
+use mathlib.Core.List.{List, [], _++_, flatten, append-nil}
 use mathlib.Core.Path.{_≡_, refl, sym, ap, _∙_}
 use native.Mathlib.Omega.{arith}
 use borrow.Author.Tests.{eq-eqb, ne-eqb, eqb-true, eqb-false}
 use lib.Dec.{eqb}
-use lib.ListN.{length, take}
+use lib.ListN.{length}
 use Rattle.ranges.specs.Numbers.{pick, _and_}
 use Rattle.lists.specs.Limits.{mostFields, mostNumbers}
 use Rattle.lists.specs.Rules.{Rules, fieldsOf}
@@ -42,19 +42,19 @@ use Rattle.rulesfile.specs.Faults.{readingFault, rulesFrom, rulesFault}
 use Rattle.rulesfile.specs.Flaws.{fileFlaw}
 use Rattle.flaws.specs.Numbered.{flawNumber}
 use Rattle.rulesfile.specs.Bytes.{noRules, rulesInFile, rulesPieces}
-use Rattle.rulesfile.specs.Tabled.{listRead, roomRead, tabledFlaw, tabledAfter}
+use Rattle.rulesfile.specs.Tabled.{tabledFlaw}
 use Rattle.rulesfile.specs.declared.file.RulesSoFar.{RulesSoFar}
 use Rattle.rulesfile.proofs.Ended.{TableStands}
 use Rattle.rulesfile.proofs.Theorems.{file-read, flaw-number-is}
 use Rattle.answers.specs.Said.{headSaid, refusedSaid, lookedSaid}
 use Rattle.answers.specs.HeaderLines.{headerOf, lineSaid, linesSaid, refusedIn, firstIn, whyIn}
-use Rattle.gateway.specs.HeaderBytes.{noHeaders, headersInFile, headersEnd}
-use Rattle.answers.specs.Counts.{headersSoFar}
+use Rattle.gateway.specs.HeaderBytes.{noHeaders, headersInFile}
+use Rattle.answers.specs.Counts.{headersSoFar, mostCount}
 use Rattle.answers.specs.Opened.{openedSaid}
-use Rattle.gateway.specs.Serving.{headersAfter, RulesFrom, HeadersFrom}
+use Rattle.gateway.specs.Serving.{RulesFrom, HeadersFrom}
 use Rattle.gateway.specs.Program.{answersSaid, programOf, piecesSaid, servedBy, served}
 use Rattle.answers.specs.declared.count.HeadersSoFar.{HeadersSoFar}
-use Rattle.answers.proofs.Counting.{mostCount, counted-is}
+use Rattle.answers.proofs.Counting.{counted-is}
 use Rattle.answers.proofs.Opening.{said-head, said-flaw}
 use Rattle.gateway.proofs.HeadersRead.{headers-read}
 use Rattle.gateway.proofs.Pieces.{pieces-whole}

@@ -15,7 +15,6 @@ use Rattle.text.specs.Lines.{noBytes, LineNow}
 use Rattle.text.specs.Puts.{Put}
 use Rattle.text.specs.Judging.{Judged, judged, Over, overIn, overStep, overEnd}
 use Rattle.text.specs.declared.line.Line.{Line}
-use Rattle.answers.specs.Said.{PutLine}
 use Rattle.answers.specs.HeaderLines.{headerFlaw, answerSaid}
 use Rattle.answers.specs.Counts.{noLines, countedBy}
 use Rattle.answers.specs.declared.answer.HeaderFlaw.{HeaderFlaw}

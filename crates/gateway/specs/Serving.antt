@@ -3,8 +3,8 @@
 -- pieces, one after the other, from which what they return comes.
 -- Assumes nothing: these are definitions.
 use Prim.Native.Nat.{ℕ, _≤_}
-use mathlib.Core.Bool.{true}
-use mathlib.Core.List.{List, [], _++_, flatten}
+use mathlib.Core.Bool.{Bool, true, false}
+use mathlib.Core.List.{List, [], flatten}
 use mathlib.Core.Path.{_≡_}
 use lib.ListN.{length, take}
 use Rattle.lists.specs.Rules.{Rules}
@@ -18,7 +18,7 @@ use Rattle.gateway.specs.HeaderBytes.{noHeaders, Answered, answered, hea
 use Rattle.gateway.specs.declared.input.Got.{Got}
 use Rattle.gateway.specs.declared.input.Got.the-variants.{Bytes, End, Folder, Failed}
 use Rattle.gateway.specs.declared.read_rules.RulesRead.{RulesRead}
-use Rattle.gateway.specs.declared.read_rules.RulesRead.the-variants.{Are as RulesAre, Missing, Failed as NoRules}
+use Rattle.gateway.specs.declared.read_rules.RulesRead.the-variants.{Are as RulesAre, Failed as NoRules}
 use Rattle.answers.specs.declared.count.HeadersSoFar.{HeadersSoFar}
 use Rattle.gateway.specs.declared.headers.HeadersFile.{HeadersFile}
 use Rattle.gateway.specs.declared.answer_headers.Turn.{Turn}
@@ -33,11 +33,22 @@ Readied Folder n = Unit {0}
 Readied Failed n = Unit {0}
 
 -- ---- the rules
--- the file has ended
-abbrev pub RulesEnded : RulesFile → List ℕ → RulesRead → List ℕ → Type 0
-RulesEnded f list (RulesAre rules) after = judged rules after ≡ rulesEnd (rulesInFile f list)
-RulesEnded f list (Missing rules) after = judged rules after ≡ rulesEnd (rulesInFile f list)
-RulesEnded f list NoRules after = Unit {0}
+-- the file has ended; said: what is wrong with it has been said
+abbrev pub RulesOver : RulesFile → List ℕ → Bool → RulesRead → List ℕ → Type 0
+RulesOver f list said (RulesAre rules told) after = (judged rules after ≡ rulesEnd (rulesInFile f list)) × (told ≡ said)
+RulesOver f list said NoRules after = ⊥
+
+-- it can't be read further
+abbrev pub RulesLost : List ℕ → RulesRead → List ℕ → Type 0
+RulesLost list (RulesAre rules told) after = ⊥
+RulesLost list NoRules after = after ≡ list
+
+-- either, by what the last read brought
+abbrev pub RulesEnded : Got → RulesFile → List ℕ → RulesRead → List ℕ → Type 0
+RulesEnded (Bytes k) f list = RulesOver f list false
+RulesEnded End f list = RulesOver f list false
+RulesEnded Folder f list = RulesOver f list true
+RulesEnded Failed f list = RulesLost list
 
 -- pieces have been read to the file's end, or to the first flaw
 pub record RulesFrom (list : List ℕ) (rules : RulesSoFar) (after : List ℕ) : Type 0 where
@@ -45,8 +56,7 @@ pub record RulesFrom (list : List ℕ) (rules : RulesSoFar) (after : List ℕ) :
   pub are : judged rules after ≡ rulesPieces (rulesInFile noRules list) pieces
 
 abbrev pub RulesReadFrom : List ℕ → RulesRead → List ℕ → Type 0
-RulesReadFrom list (RulesAre rules) after = RulesFrom list rules after
-RulesReadFrom list (Missing rules) after = RulesFrom list rules after
+RulesReadFrom list (RulesAre rules told) after = RulesFrom list rules after
 RulesReadFrom list NoRules after = Unit {0}
 
 -- ---- the headers
@@ -60,11 +70,24 @@ pub record TurnTook (R : Rules) (T : List ℕ) (f : HeadersFile) (bytes header :
   pub state : headersInFile (r .file) left [] ≡ quiet (headersFed R T f header (take used bytes))
   pub all : r .going ≡ true → used ≡ length bytes
 
--- the file has ended, or can't be read further
-abbrev pub HeadersEnded : Rules → List ℕ → HeadersFile → List ℕ → HeadersRead → Type 0
-HeadersEnded R T f header (HeadersAre headers) = headers ≡ headersEnd R T (headersInFile f header []) .headers
-HeadersEnded R T f header (Stopped headers) = headers ≡ f .headers
-HeadersEnded R T f header NoHeaders = Unit {0}
+-- the file has ended; whether the last answer is written is the system's to say
+abbrev pub HeadersOver : Rules → List ℕ → HeadersFile → List ℕ → HeadersRead → Type 0
+HeadersOver R T f header (HeadersAre headers) = headers ≡ headersEnd R T (headersInFile f header []) .headers
+HeadersOver R T f header (Stopped headers) = ⊥
+HeadersOver R T f header NoHeaders = Unit {0}
+
+-- it can't be read further
+abbrev pub HeadersLost : HeadersFile → HeadersRead → Type 0
+HeadersLost f (HeadersAre headers) = ⊥
+HeadersLost f (Stopped headers) = headers ≡ f .headers
+HeadersLost f NoHeaders = ⊥
+
+-- either, by what the last read brought
+abbrev pub HeadersEnded : Got → Rules → List ℕ → HeadersFile → List ℕ → HeadersRead → Type 0
+HeadersEnded (Bytes k) R T f header = HeadersOver R T f header
+HeadersEnded End R T f header = HeadersOver R T f header
+HeadersEnded Folder R T f header = HeadersOver R T f header
+HeadersEnded Failed R T f header = HeadersLost f
 
 -- the state after pieces
 abbrev pub headersAfter : Rules → List ℕ → List ℕ → List (List ℕ) → InFile (Over Answered)

@@ -9,10 +9,16 @@ use crate::input::read_some;
 use crate::output::write_out;
 use answers::count::HeadersSoFar;
 use lists::shape::Shape;
+use rulesfile::file::RulesSoFar;
+use rulesfile::table::rules_length;
+use rulesfile::table::rules_room;
+use rulesfile::table::rules_shape;
 ghost use Prim.Native.Nat.{_≤_};
-ghost use lib.ListN.{length};
+ghost use lib.ListN.{length, take};
+ghost use Rattle.answers.specs.Said.{lineMost};
 ghost use Rattle.lists.specs.Rules.{listed};
-ghost use Rattle.gateway.specs.Serving.{TurnTook, HeadersEnded, HeadersReadFrom};
+ghost use Rattle.rulesfile.specs.Tabled.{listRead, roomRead};
+ghost use Rattle.gateway.specs.Serving.{TurnTook, HeadersOver, HeadersEnded, HeadersReadFrom};
 
 // What is left after a piece: the headers, and whether what they printed was written.
 pub struct Turn {
@@ -30,7 +36,7 @@ fn answer_piece(
     header: &mut [u32; 8],
     out: &mut [u8],
 ) -> Turn
-    requires { ⌜ 64 ≤ length (now out) ⌝ }
+    requires { ⌜ lineMost ≤ length (now out) ⌝ }
     ensures { λ r. ⌜ TurnTook (listed shape (now (list .entry))) (now (table .entry)) file (now (bytes .entry)) (now (header .entry)) r (now (header .exit)) ⌝ }
 {
     let mut present = file;
@@ -70,8 +76,8 @@ fn end_answers(
     header: &mut [u32; 8],
     out: &mut [u8],
 ) -> HeadersRead
-    requires { ⌜ 64 ≤ length (now out) ⌝ }
-    ensures { λ r. ⌜ HeadersEnded (listed shape (now (list .entry))) (now (table .entry)) file (now (header .entry)) r ⌝ }
+    requires { ⌜ lineMost ≤ length (now out) ⌝ }
+    ensures { λ r. ⌜ HeadersOver (listed shape (now (list .entry))) (now (table .entry)) file (now (header .entry)) r ⌝ }
 {
     let last = headers_end(file, shape, list, table, header, out);
     let headers = last.headers;
@@ -92,8 +98,8 @@ fn end_headers(
     header: &mut [u32; 8],
     out: &mut [u8],
 ) -> HeadersRead
-    requires { ⌜ 64 ≤ length (now out) ⌝ }
-    ensures { λ r. ⌜ HeadersEnded (listed shape (now (list .entry))) (now (table .entry)) file (now (header .entry)) r ⌝ }
+    requires { ⌜ lineMost ≤ length (now out) ⌝ }
+    ensures { λ r. ⌜ HeadersEnded got (listed shape (now (list .entry))) (now (table .entry)) file (now (header .entry)) r ⌝ }
 {
     match got {
         Got::Bytes(n) => end_answers(file, shape, list, table, header, out),
@@ -117,7 +123,7 @@ fn headers_all(
     header: &mut [u32; 8],
     out: &mut [u8],
 ) -> HeadersRead
-    requires { ⌜ 64 ≤ length (now out) ⌝ }
+    requires { ⌜ lineMost ≤ length (now out) ⌝ }
     ensures { λ r. ⌜ HeadersReadFrom (listed shape (now (list .entry))) (now (table .entry)) (now (header .entry)) r ⌝ }
 {
     let start = headers_start();
@@ -138,18 +144,21 @@ fn headers_all(
     HeadersRead::Failed
 }
 
-// Answers each line of the headers file; one that can't be opened counts as empty.
+// Answers each line of the headers file by the rules' list and table, at the front of what is lent; a file that can't be
+// opened counts as empty.
 pub(crate) fn answer_headers(
+    rules: RulesSoFar,
     path: &[u8],
-    shape: Shape,
+    bytes: &mut [u8],
     list: &[u32],
     table: &[u16],
-    bytes: &mut [u8],
     header: &mut [u32; 8],
     out: &mut [u8],
 ) -> HeadersRead
-    requires { ⌜ 64 ≤ length (now out) ⌝ }
-    ensures { λ r. ⌜ HeadersReadFrom (listed shape (now (list .entry))) (now (table .entry)) (now (header .entry)) r ⌝ }
+    requires { ⌜ lineMost ≤ length (now out) ⌝ }
+    ensures { λ r.
+        ⌜ HeadersReadFrom (listRead rules (now (list .entry))) (take (roomRead rules (now (table .entry))) (now (table .entry)))
+        (now (header .entry)) r ⌝ }
 {
     let fd = open_input(path);
     if fd < 0 {
@@ -157,7 +166,10 @@ pub(crate) fn answer_headers(
         let headers = none.headers;
         return HeadersRead::Are(headers);
     }
-    let read = headers_all(fd, path, shape, list, table, bytes, header, out);
+    let shape = rules_shape(rules);
+    let k = rules_length(rules, list);
+    let t = rules_room(rules, table);
+    let read = headers_all(fd, path, shape, &list[..k], &table[..t], bytes, header, out);
     libc::close(fd);
     read
 }

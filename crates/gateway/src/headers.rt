@@ -5,6 +5,7 @@ use answers::answer::put_answer;
 use answers::count::HeadersSoFar;
 use answers::count::count_start;
 use answers::count::counted;
+use answers::say::LINE_MOST;
 use lists::shape::Shape;
 use text::line::Reader;
 use text::line::end_line;
@@ -14,6 +15,7 @@ ghost use mathlib.Core.Path.{_≡_};
 ghost use Prim.Native.Nat.{_+_, _≤_};
 ghost use lib.ListN.{length};
 ghost use Rattle.lists.specs.Rules.{listed};
+ghost use Rattle.answers.specs.Said.{lineMost};
 ghost use Rattle.gateway.specs.HeaderBytes.{noHeaders, HeadersTook, HeadersPiece, HeadersEnd};
 
 // The headers file within a line, of which some bytes have come.
@@ -57,7 +59,7 @@ fn headers_line(
     out: &mut [u8],
     at: usize,
 ) -> Progress
-    requires { ⌜ at + 64 ≤ length (now out) ⌝ }
+    requires { ⌜ at + lineMost ≤ length (now out) ⌝ }
     ensures { λ r.
         ⌜ HeadersTook (listed shape (now (list .entry))) (now (table .entry)) file (now (bytes .entry)) (now (header .entry)) (now (out .entry)) at
         r (now (header .exit)) (now (out .exit)) ⌝ }
@@ -97,7 +99,7 @@ pub(crate) fn headers_piece(
     header: &mut [u32; 8],
     out: &mut [u8],
 ) -> Progress
-    requires { ⌜ 64 ≤ length (now out) ⌝ }
+    requires { ⌜ lineMost ≤ length (now out) ⌝ }
     ensures { λ r.
         ⌜ HeadersPiece (listed shape (now (list .entry))) (now (table .entry)) file (now (bytes .entry)) (now (header .entry)) (now (out .entry))
         r (now (header .exit)) (now (out .exit)) ⌝ }
@@ -110,7 +112,7 @@ pub(crate) fn headers_piece(
         present = next.file;
         place = next.at;
         i += next.used;
-        if out.len() - 64 < place {
+        if out.len() - LINE_MOST < place {
             return Progress {
                 file: present,
                 used: i,
@@ -134,7 +136,7 @@ pub(crate) fn headers_end(
     header: &mut [u32; 8],
     out: &mut [u8],
 ) -> Ended
-    requires { ⌜ 64 ≤ length (now out) ⌝ }
+    requires { ⌜ lineMost ≤ length (now out) ⌝ }
     ensures { λ r.
         ⌜ HeadersEnd (listed shape (now (list .entry))) (now (table .entry)) file (now (header .entry)) (now (out .entry)) r (now (out .exit)) ⌝ }
 {

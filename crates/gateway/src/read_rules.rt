@@ -12,20 +12,21 @@ ghost use Rattle.gateway.specs.Serving.{RulesEnded, RulesReadFrom};
 
 // What reading the rules has come to.
 pub enum RulesRead {
-    Are(RulesSoFar),
-    // The file can't be opened, or is a folder: it counts as empty, and that has been said.
-    Missing(RulesSoFar),
+    // The rules of the file, and whether what is wrong with it has been said: one that can't be opened or is a folder
+    // counts as empty.
+    Are(RulesSoFar, bool),
+    // The file can't be read further, and that has been said.
     Failed,
 }
 
 // Ends the file, after a read that brought no bytes.
 fn end_rules(got: Got, file: RulesFile, list: &mut [u32]) -> RulesRead
-    ensures { λ r. ⌜ RulesEnded file (now (list .entry)) r (now (list .exit)) ⌝ }
+    ensures { λ r. ⌜ RulesEnded got file (now (list .entry)) r (now (list .exit)) ⌝ }
 {
     match got {
-        Got::Bytes(n) => RulesRead::Are(rules_end(file, list)),
-        Got::End => RulesRead::Are(rules_end(file, list)),
-        Got::Folder => RulesRead::Missing(rules_end(file, list)),
+        Got::Bytes(n) => RulesRead::Are(rules_end(file, list), false),
+        Got::End => RulesRead::Are(rules_end(file, list), false),
+        Got::Folder => RulesRead::Are(rules_end(file, list), true),
         Got::Failed => RulesRead::Failed,
     }
 }
@@ -47,7 +48,7 @@ fn rules_all(fd: i32, path: &[u8], bytes: &mut [u8], list: &mut [u32]) -> RulesR
         let rules = file.rules;
         let flaw = rules.flaw;
         if flaw_number(flaw) != 0 {
-            return RulesRead::Are(rules_end(file, list));
+            return RulesRead::Are(rules_end(file, list), false);
         }
         turns -= 1;
     }
@@ -60,7 +61,7 @@ pub(crate) fn read_rules(path: &[u8], bytes: &mut [u8], list: &mut [u32]) -> Rul
 {
     let fd = open_input(path);
     if fd < 0 {
-        return RulesRead::Missing(rules_end(rules_start(), list));
+        return RulesRead::Are(rules_end(rules_start(), list), true);
     }
     let read = rules_all(fd, path, bytes, list);
     libc::close(fd);

@@ -12,11 +12,10 @@ use flaws::flaw::Flaw;
 use flaws::flaw::flaw_number;
 use flaws::say::put_complaint;
 use rulesfile::file::RulesSoFar;
-use rulesfile::table::rules_length;
-use rulesfile::table::rules_room;
 use rulesfile::table::rules_shape;
 ghost use Prim.Native.Nat.{_≤_};
 ghost use lib.ListN.{length};
+ghost use Rattle.answers.specs.Said.{lineMost};
 
 // Says on standard error what is wrong with the rules.
 fn say_flaw(flaw: Flaw, path: &[u8], out: &mut [u8]) {
@@ -43,12 +42,10 @@ fn serve_headers(
     header: &mut [u32; 8],
     out: &mut [u8],
 )
-    requires { ⌜ 64 ≤ length (now out) ⌝ }
+    requires { ⌜ lineMost ≤ length (now out) ⌝ }
 {
     let shape = rules_shape(rules);
-    let k = rules_length(rules, list);
-    let t = rules_room(rules, table);
-    let read = answer_headers(path, shape, &list[..k], &table[..t], bytes, header, out);
+    let read = answer_headers(rules, path, bytes, list, table, header, out);
     match read {
         HeadersRead::Are(headers) => say_refused(headers, shape.d, path, out),
         HeadersRead::Stopped(headers) => say_refused(headers, shape.d, path, out),
@@ -68,7 +65,7 @@ fn serve_rules(
     header: &mut [u32; 8],
     out: &mut [u8],
 )
-    requires { ⌜ 64 ≤ length (now out) ⌝ }
+    requires { ⌜ lineMost ≤ length (now out) ⌝ }
 {
     let opened = open_rules(rules, list, table, out);
     if !write_out(out, opened.at) {
@@ -94,24 +91,13 @@ pub(crate) fn serve_files(
     header: &mut [u32; 8],
     out: &mut [u8],
 )
-    requires { ⌜ 64 ≤ length (now out) ⌝ }
+    requires { ⌜ lineMost ≤ length (now out) ⌝ }
 {
     let read = read_rules(rules_path, bytes, list);
     match read {
-        RulesRead::Are(rules) => serve_rules(
+        RulesRead::Are(rules, told) => serve_rules(
             rules,
-            false,
-            rules_path,
-            headers_path,
-            bytes,
-            list,
-            table,
-            header,
-            out,
-        ),
-        RulesRead::Missing(rules) => serve_rules(
-            rules,
-            true,
+            told,
             rules_path,
             headers_path,
             bytes,

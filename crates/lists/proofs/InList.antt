@@ -3,7 +3,7 @@
 --     Listed, in-told, in-told-by, in-yes      what yes says, and when it is said
 --     listed-rule, shaped-in                   such a rule stands in the list; each rule of a list whose shape stands is one
 -- Assumes nothing.
-use Prim.Native.Nat.{ℕ, _*_, _≤_, _<_}
+use Prim.Native.Nat.{ℕ, _≤_, _<_}
 use mathlib.Core.Bool.{Bool, true, false, not}
 use mathlib.Core.Path.{_≡_, refl, sym, _∙_}
 use native.Mathlib.Omega.{arith}

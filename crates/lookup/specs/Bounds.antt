@@ -3,7 +3,6 @@
 -- Assumes nothing: these are definitions.
 use Prim.Native.Nat.{ℕ, zero, suc, _+_, _*_, _/_, _%_, _^_, _≤_, _<_}
 use mathlib.Core.Bool.{Bool, true, false}
-use mathlib.Core.List.{List}
 use Rattle.ranges.specs.Numbers.{tab}
 use Rattle.lists.specs.Rules.{Rules, shapeOf, listed}
 use Rattle.lookup.specs.declared.walk.Walked.{Walked}

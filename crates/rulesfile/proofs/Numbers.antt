@@ -12,14 +12,14 @@ use mathlib.Core.Bool.{Bool, true, false}
 use mathlib.Core.List.{List, [], _∷_}
 use mathlib.Core.Path.{_≡_, refl, sym, ap, _∙_}
 use native.Mathlib.Omega.{arith}
-use borrow.Author.Tests.{eq-eqb, lt-ltb, eqb-true, leb-true, leb-false}
+use borrow.Author.Tests.{eq-eqb, lt-ltb, eqb-true}
 use lib.Dec.{ltb, leb, eqb}
 use lib.ListN.{length}
 use Rattle.ranges.specs.Numbers.{pick}
 use Rattle.lists.specs.Limits.{mostRules}
 use Rattle.text.specs.Rows.{allNumbers, manyMore, badIn}
 use Rattle.text.specs.Lines.{cellsOf, feedIn}
-use Rattle.text.proofs.Counted.{bad-none, many-few, many-large, many-parity, many-same}
+use Rattle.text.proofs.Counted.{bad-none, many-either, many-same}
 use Rattle.rulesfile.specs.Faults.{firstFault, mostCells, widthFault, cellsFault, lineFault, linesFault, readingFault}
 use Rattle.rulesfile.specs.Flaws.{firstFlaw, widthFlaw, lineFlaw, countIn, flawOn, linesFlaw, readingFlaw}
 use Rattle.flaws.specs.Numbered.{flawNumber}
@@ -63,22 +63,12 @@ counts-number i w feed bad k = go (leb mostRules i) (eqb bad 0) (eqb i 0) (eqb k
 -- past 65,536 it is even or odd as it should be, and too large either way
 width-count : (cs : List (List ℕ)) → widthFault (manyMore 0 cs) ≡ widthFault (length cs)
 unfolding widthFault
-width-count cs = go (leb (length cs) 65536) refl
-  where
-    go : (t : Bool) → leb (length cs) 65536 ≡ t
-        → _≡_ {A = ℕ} (pick (eqb (manyMore 0 cs % 2) 1) 8 (pick (ltb mostCells (manyMore 0 cs)) 1 0)) (pick (eqb (length cs % 2) 1) 8 (pick (ltb mostCells (length cs)) 1 0))
-    go true e =
-        let few = leb-true (length cs) 65536 e in
-        let same : manyMore 0 cs ≡ length cs = omega (arith, many-few cs 0 (omega arith)) in
-        rw same
-    go false e =
-        let many = leb-false (length cs) 65536 e in
-        let large : 65535 ≤ manyMore 0 cs = many-large cs 0 (omega arith) (omega arith) in
-        let zero-in : 0 + length cs ≡ length cs = omega arith in
-        let parity : manyMore 0 cs % 2 ≡ length cs % 2 = many-parity cs 0 (omega arith) ∙ ap (λ k. k % 2) zero-in in
-        let wide : mostCells < manyMore 0 cs = omega arith in
-        let wide' : mostCells < length cs = omega arith in
-        rw (parity, lt-ltb mostCells (manyMore 0 cs) wide, lt-ltb mostCells (length cs) wide')
+width-count cs =
+    many-either cs (λ same. rw same)
+    (λ large many parity.
+    let wide : mostCells < manyMore 0 cs = omega arith in
+    let wide' : mostCells < length cs = omega arith in
+    rw (parity, lt-ltb mostCells (manyMore 0 cs) wide, lt-ltb mostCells (length cs) wide'))
 
 fault-count : (i w : ℕ) (g : Bool) (cs : List (List ℕ)) → w ≤ mostCells → cellsFault i w g (manyMore 0 cs) ≡ cellsFault i w g (length cs)
 unfolding cellsFault

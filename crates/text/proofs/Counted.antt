@@ -5,7 +5,7 @@
 --     cells-count, cells-run                what cells come to
 --     cells-long                            the run keeps its length
 --     values-length                         as many numbers as cells
---     many-few, many-large, many-parity     the count, exact up to 65,536 and even or odd as it should be past that
+--     many-either                           the count is exact, or it and the true one are past 65,534 and even or odd alike
 --     many-same                             it tells a count below 65,535 from every other
 -- Assumes nothing.
 use Prim.Native.Nat.{ℕ, suc, _+_, _-_, _%_, _≤_, _<_}
@@ -88,7 +88,7 @@ pub cells-count : (from : ℕ) (s : Reading) (cs : List (List ℕ)) → readCell
 cells-count from s [] = refl
 cells-count from s (c ∷ cs) = cells-count from (readCell from s c) cs
 
-pub many-few : (cs : List (List ℕ)) (k : ℕ) → k + length cs ≤ 65536 → manyMore k cs ≡ k + length cs
+many-few : (cs : List (List ℕ)) (k : ℕ) → k + length cs ≤ 65536 → manyMore k cs ≡ k + length cs
 many-few [] k few = omega arith
 many-few (c ∷ cs) k few =
     let one : oneMore k ≡ k + 1 = more-few k (omega arith) in
@@ -112,7 +112,7 @@ stepped k le = go (ltb k 65536) refl
         let one : oneMore k ≡ k - 1 = more-many k over in
         record { within = omega arith; parity = omega arith }
 
-pub many-large : (cs : List (List ℕ)) (k : ℕ) → k ≤ 65536 → 65535 ≤ k + length cs → 65535 ≤ manyMore k cs
+many-large : (cs : List (List ℕ)) (k : ℕ) → k ≤ 65536 → 65535 ≤ k + length cs → 65535 ≤ manyMore k cs
 many-large [] k le large = omega arith
 many-large (c ∷ cs) k le large = many-large cs (oneMore k) (stepped k le .within) (go (ltb k 65536) refl)
   where
@@ -120,7 +120,7 @@ many-large (c ∷ cs) k le large = many-large cs (oneMore k) (stepped k le .with
     go true e = let lt = ltb-true k 65536 e in let one : oneMore k ≡ k + 1 = more-few k lt in omega arith
     go false e = let over = ltb-false k 65536 e in let one : oneMore k ≡ k - 1 = more-many k over in omega arith
 
-pub many-parity : (cs : List (List ℕ)) (k : ℕ) → k ≤ 65536 → manyMore k cs % 2 ≡ (k + length cs) % 2
+many-parity : (cs : List (List ℕ)) (k : ℕ) → k ≤ 65536 → manyMore k cs % 2 ≡ (k + length cs) % 2
 many-parity [] k le = let same : k + 0 ≡ k = omega arith in ap (λ j. j % 2) (sym same)
 many-parity (c ∷ cs) k le =
     let s = stepped k le in
@@ -128,18 +128,23 @@ many-parity (c ∷ cs) k le =
     let parity = s .parity in
     rest ∙ omega arith
 
-pub many-same : (cs : List (List ℕ)) (w : ℕ) → w < 65535 → eqb (manyMore 0 cs) w ≡ eqb (length cs) w
-many-same cs w lt = go (leb (length cs) 65536) refl
+-- so a count is exact, or it and the true one are both past 65,534 and even or odd alike
+pub many-either : {P : Type 0} (cs : List (List ℕ)) → (manyMore 0 cs ≡ length cs → P)
+    → (65535 ≤ manyMore 0 cs → 65535 ≤ length cs → manyMore 0 cs % 2 ≡ length cs % 2 → P) → P
+many-either {P} cs exact past = go (leb (length cs) 65536) refl
   where
-    go : (t : Bool) → leb (length cs) 65536 ≡ t → eqb (manyMore 0 cs) w ≡ eqb (length cs) w
+    go : (t : Bool) → leb (length cs) 65536 ≡ t → P
     go true e =
         let few = leb-true (length cs) 65536 e in
-        let same : manyMore 0 cs ≡ length cs = omega (arith, many-few cs 0 (omega arith)) in
-        rw same
+        exact (omega (arith, many-few cs 0 (omega arith)))
     go false e =
         let many = leb-false (length cs) 65536 e in
-        let large : 65535 ≤ manyMore 0 cs = many-large cs 0 (omega arith) (omega arith) in
-        ne-eqb (manyMore 0 cs) w (λ is. omega arith) ∙ sym (ne-eqb (length cs) w (λ is. omega arith))
+        let zero-in : 0 + length cs ≡ length cs = omega arith in
+        past (many-large cs 0 (omega arith) (omega arith)) (omega arith) (many-parity cs 0 (omega arith) ∙ ap (λ k. k % 2) zero-in)
+
+pub many-same : (cs : List (List ℕ)) (w : ℕ) → w < 65535 → eqb (manyMore 0 cs) w ≡ eqb (length cs) w
+many-same cs w lt =
+    many-either cs (λ same. rw same) (λ large many parity. ne-eqb (manyMore 0 cs) w (λ is. omega arith) ∙ sym (ne-eqb (length cs) w (λ is. omega arith)))
 
 -- ---- where their numbers stand
 pub values-length : (cs : List (List ℕ)) → length (valuesOf cs) ≡ length cs

@@ -1,7 +1,6 @@
 -- `answers::open::open_rules` meets its contract: the table is built once, and what that finds is printed.
 -- Assumes nothing.
 use borrow.Author.Needs.{needs}
-use mathlib.Core.Path.{sym, _∙_}
 use Rattle.answers.proofs.Opening.{opened-refused, opened-head}
 use Rattle.answers.proofs.open.open_rules.Statement.{statement}
 use Rattle.answers.proofs.open.open_rules.Tie as tie

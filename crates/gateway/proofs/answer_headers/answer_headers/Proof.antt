@@ -1,7 +1,11 @@
--- `gateway::answer_headers::answer_headers` meets its contract: a file that can't be opened comes from no piece.
+-- `gateway::answer_headers::answer_headers` meets its contract: a file that can't be opened comes from no piece; list and table stand at
+-- the front of what is lent.
 -- Assumes nothing.
 use borrow.Author.Needs.{needs}
-use Rattle.gateway.proofs.Serving.{headers-none}
+use mathlib.Core.Path.{sym}
+use native.Mathlib.Omega.{arith}
+use lib.Seq.{length-take-le}
+use Rattle.gateway.proofs.Serving.{headers-none, read-at-front}
 use Rattle.gateway.proofs.answer_headers.answer_headers.Statement.{statement}
 use Rattle.gateway.proofs.answer_headers.answer_headers.Tie as tie
 
@@ -13,6 +17,21 @@ headers-start-requires c κs = search needs
 
 returns : tie.Need-returns
 returns c = headers-none _ _ _ (c .before .headers-start .ensures)
+
+rules-shape-requires : tie.Need-rules-shape-requires
+rules-shape-requires c κs = search needs
+
+rules-length-requires : tie.Need-rules-length-requires
+rules-length-requires c κs = search needs
+
+rules-room-requires : tie.Need-rules-room-requires
+rules-room-requires c κs = search needs
+
+slice-aggregate-headers-all : tie.Need-slice-aggregate-headers-all
+slice-aggregate-headers-all c = sym (length-take-le _ _ (omega (arith, c .before .before .rules-length .ensures)))
+
+slice-aggregate-headers-all-2 : tie.Need-slice-aggregate-headers-all-2
+slice-aggregate-headers-all-2 c = sym (length-take-le _ _ (omega (arith, c .before .before .rules-room .ensures)))
 
 headers-all-requires : tie.Need-headers-all-requires
 headers-all-requires c κs = search needs
@@ -27,7 +46,13 @@ same-length-2 : tie.Need-same-length-2
 same-length-2 c = search needs
 
 returns-2 : tie.Need-returns-2
-returns-2 c = search needs
+returns-2 c =
+    let read = c .before .before .before .before .before in
+    let shape = read .before .before .before .before .before .before .before .before .rules-shape .ensures in
+    let list = read .before .before .before .before .before .before .before .rules-length .ensures in
+    let table = read .before .before .before .before .before .before .rules-room .ensures in
+    let entry = read .before .before .before .before .before .before .before .before .before .before .before .before .before .before .before .before in
+    read-at-front (entry .args .rules) _ _ _ (read .headers-all .result) shape list table (read .headers-all .ensures)
 
 pub answer-headers-spec : {M : Type 1} → statement M
 answer-headers-spec =
@@ -36,6 +61,11 @@ answer-headers-spec =
     open-input-requires
     headers-start-requires
     returns
+    rules-shape-requires
+    rules-length-requires
+    rules-room-requires
+    slice-aggregate-headers-all
+    slice-aggregate-headers-all-2
     headers-all-requires
     close-requires
     same-length

@@ -4,7 +4,7 @@
 use borrow.Author.Needs.{needs}
 use mathlib.Core.Path.{_≡_, refl, sym, _∙_}
 use native.Mathlib.Omega.{arith}
-use borrow.Author.Tests.{not-true, not-false}
+use borrow.Author.Tests.{not-false}
 use lib.ListN.{length, take}
 use lib.Seq.{length-take-le}
 use Rattle.lists.specs.Rules.{listed}
@@ -42,7 +42,7 @@ same-length-2 c = c .before .before .end-headers .kept .1 .1 .1 .1 .1 .1 .0 ∙ 
 returns : tie.Need-returns Inv-loop μ-loop
 returns c =
     let ended = c .before .before in
-    headers-ended _ _ _ (ended .before .before .before .before .before .before .before .before .before .loop .inv .1) (ended .end-headers .result) (ended .end-headers .ensures)
+    headers-ended _ _ _ (ended .before .before .before .before .before .before .before .before .before .loop .inv .1) (ended .before .before .before .before .before .before .read-some .result) (ended .end-headers .result) (ended .end-headers .ensures)
 
 slice-reshare-prefix-answer-piece : tie.Need-slice-reshare-prefix-answer-piece Inv-loop μ-loop
 slice-reshare-prefix-answer-piece c = readied-bytes (c .before .got .given .1) (c .before .before .before .before .before .read-some .ensures)

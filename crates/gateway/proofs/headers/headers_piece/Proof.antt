@@ -3,11 +3,12 @@
 -- Assumes nothing.
 use borrow.Author.Needs.{needs}
 use Prim.Native.Nat.{_+_, _-_, _≤_}
-use mathlib.Core.Path.{_≡_, _∙_}
+use mathlib.Core.Path.{_∙_}
 use native.Mathlib.Omega.{arith}
 use lib.ListN.{length}
 use Rattle.lists.specs.Rules.{listed}
-use Rattle.gateway.proofs.Printing.{wrote-long, wrote-within, Going, going-start, going-more, line-taken, piece-full, piece-all}
+use Rattle.answers.specs.Said.{lineMost}
+use Rattle.gateway.proofs.Printing.{wrote-long, Going, going-start, going-more, line-taken, piece-full, piece-all}
 use Rattle.gateway.proofs.headers.headers_piece.Statement.{statement}
 use Rattle.gateway.proofs.headers.headers_piece.Tie as tie
 
@@ -73,7 +74,7 @@ loop-again c =
     let entry = line .before .before .before .before .before .before .before .before .before .before in
     let long = wrote-long (line .before .before .before .before .before .loop .inv .printed .prints) in
     let kept = wrote-long (line .headers-line .ensures .printed .prints) in
-    let room : line .headers-line .result .at + 64 ≤ length (entry .args .out .now) = omega (arith, entry .pre, c .if1 .left) in
+    let room : line .headers-line .result .at + lineMost ≤ length (entry .args .out .now) = omega (arith, entry .pre, c .if1 .left) in
     going-more _ _ _ _ _ _ (line .before .before .before .before .before .loop .inv) (line .before .before .before .before .loop-test .taken) (line .headers-line .ensures) room
 
 same-length-2 : tie.Need-same-length-2 Inv-loop μ-loop

@@ -39,7 +39,7 @@ same-length-2 c = c .before .before .end-rules .kept .1 .1 .0 ∙ c .before .bef
 returns : tie.Need-returns Inv-loop μ-loop
 returns c =
     let ended = c .before .before in
-    on-ended _ (ended .before .before .before .before .before .before .before .before .loop .inv .1) (ended .end-rules .result) (ended .end-rules .last .1 .1 .0) (ended .end-rules .ensures)
+    on-ended _ (ended .before .before .before .before .before .before .before .before .loop .inv .1) (ended .before .before .before .before .before .read-some .result) (ended .end-rules .result) (ended .end-rules .last .1 .1 .0) (ended .end-rules .ensures)
 
 slice-reshare-prefix-rules-piece : tie.Need-slice-reshare-prefix-rules-piece Inv-loop μ-loop
 slice-reshare-prefix-rules-piece c = readied-bytes (c .before .got .given .1) (c .before .before .before .before .before .read-some .ensures)

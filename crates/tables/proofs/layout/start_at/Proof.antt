@@ -1,8 +1,6 @@
 -- `tables::layout::start_at` meets its contract: the sum of numbers of 16 bits fits a word.
 -- Assumes nothing.
 use borrow.Author.Needs.{needs}
-use mathlib.Core.Path.{ap}
-use Prim.Native.Nat.{_+_}
 use native.Mathlib.Omega.{arith}
 use Rattle.tables.specs.Layout.{orderAt, startAt}
 use Rattle.tables.proofs.layout.start_at.Statement.{statement}
