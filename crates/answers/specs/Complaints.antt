@@ -2,18 +2,16 @@
 -- Assumes nothing: these are definitions.
 use Prim.Native.Nat.{ℕ}
 use mathlib.Core.List.{List, [], _++_}
-use lib.Dec.{eqb}
-use Rattle.ranges.specs.Numbers.{pick}
 use Rattle.text.specs.Texts.{bytes}
 use Rattle.text.specs.Decimals.{decimalOf}
-use Rattle.flaws.specs.Said.{cellsSaid, notNumberSaid, feedSaid, namedSaid}
+use Rattle.flaws.specs.Said.{pluralSaid, cellsSaid, notNumberSaid, feedSaid, namedSaid}
 use Rattle.answers.specs.declared.answer.HeaderFlaw.{HeaderFlaw}
 use Rattle.answers.specs.declared.answer.HeaderFlaw.the-variants.{Nothing, NotNumber, LoneFeed, OtherWidth}
 use Rattle.answers.specs.declared.count.HeadersSoFar.{HeadersSoFar}
 
 -- 1 line, 2 lines
-unfoldable pub countedSaid : ℕ → List ℕ → List ℕ
-countedSaid n word = decimalOf n ++ word ++ pick (eqb n 1) [] (bytes "s")
+abbrev pub countedSaid : ℕ → List ℕ → List ℕ
+countedSaid n word = decimalOf n ++ pluralSaid n word
 
 -- why a header line was refused, for rules of d fields
 abbrev pub whySaid : List ℕ → ℕ → HeaderFlaw → List ℕ

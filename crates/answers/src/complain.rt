@@ -6,6 +6,7 @@ use flaws::say::put_cells;
 use flaws::say::put_feed;
 use flaws::say::put_named;
 use flaws::say::put_not_number;
+use flaws::say::put_plural;
 use text::put::put_number;
 use text::put::put_text;
 ghost use Rattle.text.specs.Puts.{Put};
@@ -16,11 +17,7 @@ fn put_counted(n: u64, word: &[u8], out: &mut [u8], at: usize) -> usize
     ensures { λ r. ⌜ Put (now (out .entry)) at (countedSaid n (now (word .entry))) (now (out .exit)) r ⌝ }
 {
     let a = put_number(n, out, at);
-    let b = put_text(word, out, a);
-    if n == 1 {
-        return b;
-    }
-    put_text(b"s", out, b)
+    put_plural(n, word, out, a)
 }
 
 // Puts why a header line was refused, for rules of d fields.

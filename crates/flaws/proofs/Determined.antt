@@ -8,6 +8,8 @@ use Rattle.ranges.proofs.OneAnswer.{OneAnswer, OneRun}
 use Rattle.text.proofs.Determined.{place-one, bytes-one}
 use Rattle.flaws.proofs.flaw.flaw_number.Kinds as flaw-number-kinds
 use Rattle.flaws.proofs.flaw.flaw_number.Reads as flaw-number
+use Rattle.flaws.proofs.say.put_plural.Kinds as put-plural-kinds
+use Rattle.flaws.proofs.say.put_plural.Reads as put-plural
 use Rattle.flaws.proofs.say.put_cells.Kinds as put-cells-kinds
 use Rattle.flaws.proofs.say.put_cells.Reads as put-cells
 use Rattle.flaws.proofs.say.put_not_number.Kinds as put-not-number-kinds
@@ -26,6 +28,12 @@ pub flaw-number-one : OneAnswer 0 flaw-number-kinds.ps flaw-number-kinds.r flaw-
 flaw-number-one κs a x y e g p q = p ∙ sym q
 
 -- ---- say, and the bytes afterwards
+pub put-plural-one : OneAnswer 2 put-plural-kinds.ps put-plural-kinds.r put-plural.Learnt
+put-plural-one κs a x y e g p q = place-one p q
+
+pub put-plural-run-one : OneRun 2 put-plural-kinds.ps put-plural-kinds.r put-plural.Learnt (λ κs e. now (e .1 .1 .0))
+put-plural-run-one κs a x y e g p q = bytes-one p q
+
 pub put-cells-one : OneAnswer 1 put-cells-kinds.ps put-cells-kinds.r put-cells.Learnt
 put-cells-one κs a x y e g p q = place-one p q
 

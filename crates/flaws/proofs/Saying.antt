@@ -1,12 +1,12 @@
--- Laws of a flaw's text (`specs/Said.antt`): a count of cells, way by way.
+-- Laws of a flaw's text (`specs/Said.antt`): a count of cells and the word for what is counted, way by way.
 -- Assumes nothing.
 use Prim.Native.Nat.{ℕ, _≤_, _<_}
-use mathlib.Core.List.{_++_}
+use mathlib.Core.List.{List, _++_, append-nil}
 use mathlib.Core.Path.{_≡_}
 use borrow.Author.Tests.{lt-ltb, le-ltb, eq-eqb, ne-eqb}
 use Rattle.text.specs.Texts.{bytes}
 use Rattle.text.specs.Decimals.{decimalOf}
-use Rattle.flaws.specs.Said.{countSaid, cellsSaid}
+use Rattle.flaws.specs.Said.{countSaid, pluralSaid}
 
 module _ (k : ℕ) where
   pub count-exact : k < 65535 → countSaid k ≡ decimalOf k
@@ -17,10 +17,11 @@ module _ (k : ℕ) where
   unfolding countSaid
   count-many many = rw (le-ltb k 65535 many)
 
-  pub cells-one : k ≡ 1 → cellsSaid k ≡ countSaid k ++ bytes " cell"
-  unfolding cellsSaid
-  cells-one one = rw (eq-eqb k 1 one)
+  module _ (word : List ℕ) where
+    pub plural-one : k ≡ 1 → pluralSaid k word ≡ word
+    unfolding pluralSaid
+    plural-one one = rw (eq-eqb k 1 one) (append-nil word)
 
-  pub cells-other : (k ≡ 1 → ⊥) → cellsSaid k ≡ countSaid k ++ bytes " cells"
-  unfolding cellsSaid
-  cells-other other = rw (ne-eqb k 1 other)
+    pub plural-other : (k ≡ 1 → ⊥) → pluralSaid k word ≡ word ++ bytes "s"
+    unfolding pluralSaid
+    plural-other other = rw (ne-eqb k 1 other)

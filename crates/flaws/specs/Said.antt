@@ -13,9 +13,12 @@ use Rattle.flaws.specs.declared.flaw.Flaw.the-variants.{Nothing, NoLine,
 unfoldable pub countSaid : ℕ → List ℕ
 countSaid k = pick (ltb k 65535) (decimalOf k) (bytes "65535 or more")
 
--- 1 cell, 2 cells
-unfoldable pub cellsSaid : ℕ → List ℕ
-cellsSaid k = countSaid k ++ pick (eqb k 1) (bytes " cell") (bytes " cells")
+-- the word for what is counted: 1 cell, 2 cells
+unfoldable pub pluralSaid : ℕ → List ℕ → List ℕ
+pluralSaid n word = word ++ pick (eqb n 1) [] (bytes "s")
+
+abbrev pub cellsSaid : ℕ → List ℕ
+cellsSaid k = countSaid k ++ pluralSaid k (bytes " cell")
 
 -- a cell that is no number
 abbrev pub notNumberSaid : ℕ → List ℕ

@@ -3,7 +3,7 @@ use crate::flaw::Flaw;
 use text::put::put_number;
 use text::put::put_text;
 ghost use Rattle.text.specs.Puts.{Put};
-ghost use Rattle.flaws.specs.Said.{countSaid, cellsSaid, notNumberSaid, feedSaid, badCellSaid, otherWidthSaid, firstWidthSaid, voidSaid, flawSaid, namedSaid, complaintSaid};
+ghost use Rattle.flaws.specs.Said.{countSaid, pluralSaid, cellsSaid, notNumberSaid, feedSaid, badCellSaid, otherWidthSaid, firstWidthSaid, voidSaid, flawSaid, namedSaid, complaintSaid};
 
 // Puts a count of cells.
 fn put_count(k: u32, out: &mut [u8], at: usize) -> usize
@@ -15,15 +15,23 @@ fn put_count(k: u32, out: &mut [u8], at: usize) -> usize
     put_text(b"65535 or more", out, at)
 }
 
+// Puts the word for what is counted, with an s unless the count is 1.
+pub fn put_plural(n: u64, word: &[u8], out: &mut [u8], at: usize) -> usize
+    ensures { λ r. ⌜ Put (now (out .entry)) at (pluralSaid n (now (word .entry))) (now (out .exit)) r ⌝ }
+{
+    let a = put_text(word, out, at);
+    if n == 1 {
+        return a;
+    }
+    put_text(b"s", out, a)
+}
+
 // Puts a count of cells and what it counts.
 pub fn put_cells(k: u32, out: &mut [u8], at: usize) -> usize
     ensures { λ r. ⌜ Put (now (out .entry)) at (cellsSaid k) (now (out .exit)) r ⌝ }
 {
     let a = put_count(k, out, at);
-    if k == 1 {
-        return put_text(b" cell", out, a);
-    }
-    put_text(b" cells", out, a)
+    put_plural(k as u64, b" cell", out, a)
 }
 
 // Puts which cell is no number.

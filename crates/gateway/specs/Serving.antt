@@ -7,7 +7,9 @@ use mathlib.Core.Bool.{Bool, true, false}
 use mathlib.Core.List.{List, [], flatten}
 use mathlib.Core.Path.{_≡_}
 use lib.ListN.{length, take}
+use Rattle.ranges.specs.Numbers.{sameList}
 use Rattle.lists.specs.Rules.{Rules}
+use Rattle.text.specs.Texts.{bytes}
 use Rattle.text.specs.Cells.{fed}
 use Rattle.text.specs.Files.{InFile, inFile}
 use Rattle.text.specs.Judging.{judged, Over, over}
@@ -24,6 +26,10 @@ use Rattle.gateway.specs.declared.headers.HeadersFile.{HeadersFile}
 use Rattle.gateway.specs.declared.answer_headers.Turn.{Turn}
 use Rattle.gateway.specs.declared.answer_headers.HeadersRead.{HeadersRead}
 use Rattle.gateway.specs.declared.answer_headers.HeadersRead.the-variants.{Are as HeadersAre, Stopped, Failed as NoHeaders}
+
+-- - names standard input
+abbrev pub isStdin : List ℕ → Bool
+isStdin path = sameList path (bytes "-")
 
 -- what was read lies within n bytes
 abbrev pub Readied : Got → ℕ → Type 0

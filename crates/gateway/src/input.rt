@@ -1,8 +1,11 @@
 // A file in: it is opened, and a piece of it is read into a run of bytes. What goes wrong is said on standard error.
 use flaws::say::put_named;
 use libc::STDIN_FILENO;
+ghost use mathlib.Core.Bool.{true};
+ghost use mathlib.Core.Path.{_≡_};
+ghost use lib.IntN.{pos};
 ghost use lib.ListN.{length};
-ghost use Rattle.gateway.specs.Serving.{Readied};
+ghost use Rattle.gateway.specs.Serving.{isStdin, Readied};
 
 // What a read brought.
 pub enum Got {
@@ -28,9 +31,18 @@ fn say_first(text: &[u8], n: usize) {
     os::fail(&text[..n]);
 }
 
-// Opens a file to read, and answers its descriptor, or a number below 0; - names standard input.
-pub(crate) fn open_input(path: &[u8]) -> i32 {
-    if check::same(path, b"-") {
+// Says whether a name is that of standard input.
+pub(crate) fn is_stdin(path: &[u8]) -> bool
+    ensures { λ r. ⌜ r ≡ isStdin (now (path .entry)) ⌝ }
+{
+    check::same(path, b"-")
+}
+
+// Opens a file to read, and answers its descriptor, or a number below 0.
+pub(crate) fn open_input(path: &[u8]) -> i32
+    ensures { λ r. ⌜ (isStdin (now (path .entry)) ≡ true → r ≡ pos 0) ⌝ }
+{
+    if is_stdin(path) {
         return STDIN_FILENO;
     }
     let fd = os::open_read(path);

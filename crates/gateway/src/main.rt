@@ -23,11 +23,15 @@ mod output;
 mod read_rules;
 mod serve;
 
+use input::is_stdin;
 use libc::STDERR_FILENO;
 use libc::STDOUT_FILENO;
 use lists::shape::MOST_NUMBERS;
 use serve::serve_files;
 use tables::layout::MOST_TABLE;
+ghost use mathlib.Core.Path.{_≡_};
+ghost use Rattle.ranges.specs.Numbers.{_and_};
+ghost use Rattle.gateway.specs.Serving.{isStdin};
 
 // Lends the runs that the work needs: room for the longest list and for the longest table.
 fn run(rules_path: &[u8], headers_path: &[u8]) {
@@ -72,9 +76,11 @@ fn run_named() {
 }
 
 // Says whether two names are both that of standard input.
-fn names_twice(one: &[u8], other: &[u8]) -> bool {
-    if check::same(one, b"-") {
-        return check::same(other, b"-");
+fn names_twice(one: &[u8], other: &[u8]) -> bool
+    ensures { λ r. ⌜ r ≡ (isStdin (now (one .entry)) and isStdin (now (other .entry))) ⌝ }
+{
+    if is_stdin(one) {
+        return is_stdin(other);
     }
     false
 }

@@ -12,6 +12,7 @@
 --     all-same, least-same, greatest-same   two tests that answer alike below n
 --     tab-length, tab-at               the list of a function's values
 --     same-list-refl, same-list-equal  a list is the same as itself; two that are the same are equal
+--     same-list-is                     what a comparison answers
 -- Assumes nothing.
 use Prim.Native.Nat.{ℕ, zero, suc, _+_, _≤_, _<_}
 use mathlib.Core.Bool.{Bool, true, false}
@@ -268,3 +269,17 @@ same-list-equal (x ∷ xs) (y ∷ ys) e =
     let head : x ≡ y = eqb-true x y (and-left (eqb x y) (sameList xs ys) e) in
     let tail : xs ≡ ys = same-list-equal xs ys (and-right (eqb x y) (sameList xs ys) e) in
     cc
+
+-- an answer that is true exactly for the same numbers
+pub same-list-is : (xs ys : List ℕ) {r : Bool} → (r ≡ true → xs ≡ ys) × (xs ≡ ys → r ≡ true) → {t : Bool} → r ≡ t → sameList xs ys ≡ t
+same-list-is xs ys {r} told {t} is = go (sameList xs ys) r refl refl ∙ is
+  where
+    go : (s u : Bool) → sameList xs ys ≡ s → r ≡ u → sameList xs ys ≡ r
+    go true true p q = p ∙ sym q
+    go false false p q = p ∙ sym q
+    go true false p q = let e : r ≡ true = told .1 (same-list-equal xs ys p) in never (cc)
+    go false true p q =
+        let e : xs ≡ ys = told .0 q in
+        let f : sameList xs xs ≡ true = same-list-refl xs in
+        let g : sameList xs ys ≡ true = rw (← e) f in
+        never (cc)

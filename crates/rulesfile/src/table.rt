@@ -75,7 +75,8 @@ fn void_flaw(shape: Shape, list: &[u32], x: Refusal) -> Flaw
     }
 }
 
-// Builds the table of a list, and gives the flaw that the build has found.
+// Builds the table of a list, and gives the flaw that the build has found: low > high, the only one that a list of lines
+// without flaw can have, where there is room for its table. Any other refusal is given as that flaw too.
 fn build_list(shape: Shape, list: &[u32], table: &mut [u16]) -> Flaw
     requires { ⌜ shape .d < 65536 ⌝ }
     ensures { λ r.
@@ -90,7 +91,7 @@ fn build_list(shape: Shape, list: &[u32], table: &mut [u16]) -> Flaw
 }
 
 // Builds the table of the rules once their file has ended, at the front of a run: gives the first flaw of their lines;
-// or that there is no line; or what the build finds. Where there is a flaw the run stays as lent.
+// or that there is no line; or low > high, where the build refuses the list. Where there is a flaw the run stays as lent.
 pub fn rules_table(rules: RulesSoFar, list: &[u32], table: &mut [u16]) -> Flaw
     ensures { λ r. ⌜ Tabled rules (now (list .entry)) (now (table .entry)) r (now (table .exit)) ⌝ }
 {

@@ -1,9 +1,9 @@
 -- `calls::word::table_word` meets its contract: at each way out the comparisons that led there decide the definition.
 -- Assumes nothing.
 use borrow.Author.Needs.{needs}
+use Rattle.ranges.proofs.Numbers.{same-list-is}
 use Rattle.text.specs.Texts.{bytes}
 use Rattle.calls.specs.Names.{tableWord}
-use Rattle.calls.proofs.Names.{same-list-is}
 use Rattle.calls.proofs.word.table_word.Statement.{statement}
 use Rattle.calls.proofs.word.table_word.Tie as tie
 

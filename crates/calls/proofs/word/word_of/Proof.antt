@@ -1,9 +1,9 @@
 -- `calls::word::word_of` meets its contract: at each way out the comparisons that led there decide the definition.
 -- Assumes nothing.
 use borrow.Author.Needs.{needs}
+use Rattle.ranges.proofs.Numbers.{same-list-is}
 use Rattle.text.specs.Texts.{bytes}
 use Rattle.calls.specs.Names.{wordOf}
-use Rattle.calls.proofs.Names.{same-list-is}
 use Rattle.calls.proofs.word.word_of.Statement.{statement}
 use Rattle.calls.proofs.word.word_of.Tie as tie
 
