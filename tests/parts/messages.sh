@@ -106,6 +106,18 @@ messages_of_names() {
     judge $? 'gateway with standard input named twice says one line on standard error alone'
 }
 
+# A read that fails: of rules nothing is printed then, of headers nothing more.
+messages_of_reads() {
+    fresh_pair
+    echo 'gateway: -: Bad file descriptor' >"$scratch/want"
+    timeout "$limit" "$gateway" - "$pair/headers.csv" >"$scratch/got" 2>"$scratch/said" <&-
+    [ ! -s "$scratch/got" ] && cmp -s "$scratch/want" "$scratch/said"
+    judge $? 'gateway prints nothing of rules that it can not read'
+    timeout "$limit" "$gateway" "$pair/rules.csv" - >"$scratch/got" 2>"$scratch/said" <&-
+    printf 'rule,tests\r\n' | cmp -s - "$scratch/got" && cmp -s "$scratch/want" "$scratch/said"
+    judge $? 'gateway prints the first line alone where it can not read its headers'
+}
+
 # Each answer is written before the next line comes.
 messages_over_a_pipe() {
     local head='' answer='' other='' ends=''
@@ -129,6 +141,7 @@ conduct_messages() {
     messages_of_rules
     messages_of_headers
     messages_of_names
+    messages_of_reads
     messages_over_a_pipe
     rm -rf "$scratch/messages"
 }
