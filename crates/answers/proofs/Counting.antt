@@ -84,7 +84,7 @@ counts-none d (l ∷ ls) i few = go (isRefused (flawOn d l)) refl (counts-none d
         ∙ follow (omega arith)
         ∙ rw count'
 
--- of a file of at most 18446744073709551615 lines
+-- of a file of at most `mostCount` lines
 pub counted-is : (d : ℕ) (ls : List (List ℕ)) → length ls ≤ mostCount
     → counts d noLines ls ≡ headersSoFar (length ls) (refusedIn d ls) (firstIn d 0 ls) (whyIn d ls)
 counted-is d ls few = let same : 0 + length ls ≡ length ls = omega arith in counts-none d ls 0 (omega arith) ∙ rw same

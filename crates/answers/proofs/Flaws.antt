@@ -9,6 +9,7 @@ use mathlib.Core.Bool.{Bool, true, false}
 use mathlib.Core.List.{List}
 use mathlib.Core.Path.{_≡_}
 use borrow.Author.Tests.{lt-ltb, le-ltb, eq-eqb, ne-eqb}
+use Rattle.ranges.specs.Refusals.{numberOf, BadLine}
 use Rattle.lists.specs.Rules.{Rules}
 use Rattle.lookup.specs.Lookup.{lookupOf}
 use Rattle.answers.specs.Said.{refusedSaid, lookedSaid}
@@ -40,7 +41,7 @@ module _ (d : ℕ) (feed : Bool) (bad k : ℕ) where
 
 -- ---- what is printed for it
 module _ (R : Rules) (T : List ℕ) (flaw : HeaderFlaw) (h : List ℕ) where
-  pub said-refused : isRefused flaw ≡ true → answerSaid R T flaw h ≡ refusedSaid 8
+  pub said-refused : isRefused flaw ≡ true → answerSaid R T flaw h ≡ refusedSaid (numberOf BadLine)
   unfolding answerSaid
   said-refused refused = rw refused
 

@@ -4,14 +4,15 @@ use Prim.Native.Nat.{ℕ, _+_}
 use mathlib.Core.List.{List, [], _++_}
 use lib.Dec.{ltb, eqb}
 use Rattle.ranges.specs.Numbers.{pick}
+use Rattle.text.specs.Rows.{exactBelow}
 use Rattle.text.specs.Texts.{bytes}
 use Rattle.text.specs.Decimals.{decimalOf}
 use Rattle.flaws.specs.declared.flaw.Flaw.{Flaw}
 use Rattle.flaws.specs.declared.flaw.Flaw.the-variants.{Nothing, NoLine, NotNumber, LoneFeed, OtherWidth, OddWidth, TooWide, TooManyRules, LowAboveHigh}
 
--- a count of cells, which is exact below 65,535
+-- a count of cells
 unfoldable pub countSaid : ℕ → List ℕ
-countSaid k = pick (ltb k 65535) (decimalOf k) (bytes "65535 or more")
+countSaid k = pick (ltb k exactBelow) (decimalOf k) (bytes "65535 or more")
 
 -- the word for what is counted: 1 cell, 2 cells
 unfoldable pub pluralSaid : ℕ → List ℕ → List ℕ

@@ -2,6 +2,7 @@
 use crate::flaw::Flaw;
 use text::put::put_number;
 use text::put::put_text;
+use text::row::EXACT_BELOW;
 ghost use Rattle.text.specs.Puts.{Put};
 ghost use Rattle.flaws.specs.Said.{countSaid, pluralSaid, cellsSaid, notNumberSaid, feedSaid, badCellSaid, otherWidthSaid, firstWidthSaid, voidSaid, flawSaid, namedSaid, complaintSaid};
 
@@ -9,7 +10,7 @@ ghost use Rattle.flaws.specs.Said.{countSaid, pluralSaid, cellsSaid, not
 fn put_count(k: u32, out: &mut [u8], at: usize) -> usize
     ensures { λ r. ⌜ Put (now (out .entry)) at (countSaid k) (now (out .exit)) r ⌝ }
 {
-    if k < 65535 {
+    if k < EXACT_BELOW {
         return put_number(k as u64, out, at);
     }
     put_text(b"65535 or more", out, at)

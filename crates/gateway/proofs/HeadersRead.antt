@@ -12,17 +12,17 @@ use borrow.Author.Tests.{eqb-true, eqb-false}
 use lib.Dec.{eqb}
 use lib.ListN.{length, take, drop, replicate}
 use lib.Seq.{sets, sets-eq, take-append-add}
+use Rattle.ranges.specs.Refusals.{numberOf, BadLine}
 use Rattle.ranges.specs.Numbers.{pick, _and_}
 use Rattle.lists.specs.Rules.{Rules, fieldsOf}
 use Rattle.lists.specs.Headers.{headerLength, zeros}
 use Rattle.lookup.specs.Lookup.{lookupOf}
 use Rattle.text.specs.Cells.{fed}
 use Rattle.text.specs.Files.{linesOf}
-use Rattle.text.specs.Rows.{allNumbers, valuesOf, manyMore, badIn, begin, readCells}
+use Rattle.text.specs.Rows.{allNumbers, valuesOf, exactBelow, manyMore, badIn, begin, readCells}
 use Rattle.text.specs.Lines.{cellsOf, feedIn, wholeLine}
 use Rattle.text.specs.Judging.{judged, judgedLines}
-use Rattle.text.proofs.Rows.{bad-first}
-use Rattle.text.proofs.Counted.{cells-bad, bad-none, cells-count, cells-run, values-length, many-same}
+use Rattle.text.proofs.Counted.{line-bad, bad-none, cells-count, cells-run, values-length, many-same}
 use Rattle.text.proofs.Judging.{judged-is}
 use Rattle.answers.specs.Said.{refusedSaid, lookedSaid}
 use Rattle.answers.specs.Counts.{noLines, countedBy}
@@ -70,10 +70,10 @@ module _ (R : Rules) (T : List ℕ) (narrow : fieldsOf R ≤ headerLength) where
   -- the flaw of a line as it is read
   flaw-here : (l : List ℕ) → let w = wholeLine 0 zeros l .line in headerFlaw d (w .feed) (w .row .bad) (w .row .cells) ≡ flawOn d l
   flaw-here l =
-      ap (λ k. headerFlaw d (feedIn l) k (readCells 0 (begin zeros) (cellsOf l) .row .cells)) (cells-bad 0 (begin zeros) (cellsOf l) ∙ bad-first 0 (badIn 0 (cellsOf l)) refl)
+      ap (λ k. headerFlaw d (feedIn l) k (readCells 0 (begin zeros) (cellsOf l) .row .cells)) (line-bad 0 zeros (cellsOf l))
       ∙ ap (headerFlaw d (feedIn l) (badIn 0 (cellsOf l))) (cells-count 0 (begin zeros) (cellsOf l))
 
-  small : d < 65535
+  small : d < exactBelow
   small = omega arith
 
   -- a line is refused exactly where it is bad or hasn't d cells
@@ -94,7 +94,7 @@ module _ (R : Rules) (T : List ℕ) (narrow : fieldsOf R ≤ headerLength) where
   said-is l = go (allNumbers (cellsOf l)) (eqb (length (cellsOf l)) d) refl refl
     where
       go : (s t : Bool) → allNumbers (cellsOf l) ≡ s → eqb (length (cellsOf l)) d ≡ t
-          → answerSaid R T (flawOn d l) (wholeLine 0 zeros l .run) ≡ pick (s and t) (lookedSaid (lookupOf R T (headerOf (cellsOf l)))) (refusedSaid 8)
+          → answerSaid R T (flawOn d l) (wholeLine 0 zeros l .run) ≡ pick (s and t) (lookedSaid (lookupOf R T (headerOf (cellsOf l)))) (refusedSaid (numberOf BadLine))
       go true true p q =
           let count = eqb-true (length (cellsOf l)) d q in
           said-looked R T (flawOn d l) (wholeLine 0 zeros l .run) (refused-is l true true p q)

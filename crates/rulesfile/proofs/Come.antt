@@ -1,6 +1,6 @@
 -- Lines of a rules file, judged one after the other (`specs/Bytes.antt`). Each adds its numbers to the list after those of the
 -- lines before it, until the first that has a flaw; the first line sets the number of cells of the others.
---     Come, Stood                  what all lines of a file come to: the first flaw, and where there is none the list
+--     Come, Stood, own-fine        what all lines of a file come to: the first flaw, and where there is none the list
 --     come                         the lines of a file
 --     rules-read                   the bytes of a file
 -- Assumes nothing.
@@ -47,11 +47,19 @@ pub record Stood (ls : List (List ℕ)) (y : Judged RulesSoFar) : Type 0 where
   pub even : widthOf ls % 2 ≡ 0
   pub wide : 2 ≤ widthOf ls
 
--- the first flaw, of which that of a file without line is found at its end, and where there is none all numbers; the run keeps its length
+-- what the file's end finds: that there is no line, where there is none
+abbrev pub endFlaw : RulesSoFar → Flaw
+endFlaw r = pick (eqb (r .lines) 0) NoLine Nothing
+
+-- the first flaw, that of the file's end the last of them, and where there is none all numbers; the run keeps its length
 pub record Come (ls : List (List ℕ)) (y : Judged RulesSoFar) : Type 0 where
-  pub flaw : firstFlaw (y .own .flaw) (pick (eqb (y .own .lines) 0) NoLine Nothing) ≡ readingFlaw ls
+  pub flaw : firstFlaw (y .own .flaw) (endFlaw (y .own)) ≡ readingFlaw ls
   pub stood : flawNumber (readingFlaw ls) ≡ 0 → Stood ls y
   pub long : length (y .run) ≡ mostNumbers
+
+-- lines without flaw leave none
+pub own-fine : {ls : List (List ℕ)} {y : Judged RulesSoFar} → Come ls y → flawNumber (readingFlaw ls) ≡ 0 → flawNumber (y .own .flaw) ≡ 0
+own-fine {ls} {y} at none = first-fine (y .own .flaw) (endFlaw (y .own)) (ap flawNumber (at .flaw) ∙ none)
 
 -- ---- the same of lines after i lines of w cells each, whose numbers are acc
 record StoodOn (w i : ℕ) (acc : List ℕ) (ls : List (List ℕ)) (y : Judged RulesSoFar) : Type 0 where
@@ -208,17 +216,17 @@ come-lines l ls y on long = record { flaw = go (eqb (flawNumber found) 0) refl; 
     found : Flaw
     found = linesFlaw 0 (countIn l) (l ∷ ls)
 
-    go : (t : Bool) → eqb (flawNumber found) 0 ≡ t → firstFlaw (y .own .flaw) (pick (eqb (y .own .lines) 0) NoLine Nothing) ≡ found
+    go : (t : Bool) → eqb (flawNumber found) 0 ≡ t → firstFlaw (y .own .flaw) (endFlaw (y .own)) ≡ found
     go true e =
         let none = eqb-true (flawNumber found) 0 e in
         let lines = on .stood none .lines in
         let some : y .own .lines ≡ 0 → ⊥ = λ z. omega arith in
-        first-none (y .own .flaw) (pick (eqb (y .own .lines) 0) NoLine Nothing) (ap flawNumber (on .flaw) ∙ none)
+        first-none (y .own .flaw) (endFlaw (y .own)) (ap flawNumber (on .flaw) ∙ none)
         ∙ ap (λ t. pick t NoLine Nothing) (ne-eqb (y .own .lines) 0 some)
         ∙ sym (number-some found none)
     go false e =
         let some = eqb-false (flawNumber found) 0 e in
-        first-some (y .own .flaw) (pick (eqb (y .own .lines) 0) NoLine Nothing) (λ z. some (ap flawNumber (sym (on .flaw)) ∙ z)) ∙ on .flaw
+        first-some (y .own .flaw) (endFlaw (y .own)) (λ z. some (ap flawNumber (sym (on .flaw)) ∙ z)) ∙ on .flaw
 
     stood : flawNumber found ≡ 0 → Stood (l ∷ ls) y
     stood none =

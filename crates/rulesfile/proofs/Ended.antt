@@ -24,24 +24,21 @@ use Rattle.text.specs.Judging.{Judged}
 use Rattle.rulesfile.specs.Faults.{rulesFrom}
 use Rattle.rulesfile.specs.Flaws.{firstFlaw, readingFlaw, listFlaw, fileFlaw}
 use Rattle.flaws.specs.Numbered.{flawNumber}
-use Rattle.rulesfile.specs.Tabled.{lengthRead, listRead, roomRead, builtFlaw, tabledFlaw, tabledAfter, Tabled}
+use Rattle.rulesfile.specs.Tabled.{listRead, roomRead, builtFlaw, tabledFlaw, tabledAfter, Tabled}
 use Rattle.flaws.specs.declared.flaw.Flaw.{Flaw}
 use Rattle.flaws.specs.declared.flaw.Flaw.the-variants.{Nothing, NoLine}
 use Rattle.rulesfile.specs.declared.file.RulesSoFar.{RulesSoFar}
 use Rattle.rulesfile.proofs.Flaws.{first-some, first-none, first-fine}
-use Rattle.rulesfile.proofs.Come.{Come, Stood}
+use Rattle.rulesfile.proofs.Come.{endFlaw, Come, Stood, own-fine}
 use Rattle.rulesfile.proofs.Listing.{stood-list, stood-rules, stood-shaped, list-number}
-use Rattle.rulesfile.proofs.Tabling.{built-list, tabled-flawed, tabled-no-line, tabled-built, after-long, tabled-long}
+use Rattle.rulesfile.proofs.Tabling.{built-list, tabled-flawed, tabled-no-line, tabled-built, after-long}
 
 -- ls are the file's lines, y is what was read of them, and `table` is the run for the table: the flaw is the file's; where there is none the
--- list is the file's rules and the run begins with their table; both lengths lie within their runs, and the run stays as long as it was
+-- list is the file's rules and the run begins with their table
 pub record TableStands (ls : List (List ℕ)) (y : Judged RulesSoFar) (table : List ℕ) : Type 0 where
   pub flaw : tabledFlaw (y .own) (y .run) table ≡ fileFlaw ls
   pub list : flawNumber (fileFlaw ls) ≡ 0 → listRead (y .own) (y .run) ≡ rulesFrom ls
   pub built : flawNumber (fileFlaw ls) ≡ 0 → take (roomRead (y .own) table) (tabledAfter (y .own) (y .run) table) ≡ builtTable (rulesFrom ls)
-  pub counts : lengthRead (y .own) (y .run) ≤ length (y .run)
-  pub within : roomRead (y .own) table ≤ length (tabledAfter (y .own) (y .run) table)
-  pub long : length (tabledAfter (y .own) (y .run) table) ≡ length table
 
 -- ---- lines without flaw
 module _ (ls : List (List ℕ)) (y : Judged RulesSoFar) (table : List ℕ) (room : mostTable ≤ length table) (s : Stood ls y) where
@@ -93,7 +90,7 @@ module _ (ls : List (List ℕ)) (y : Judged RulesSoFar) (table : List ℕ) (room
 
 -- ---- lines with a flaw
 -- it is the first that was read; or there is no line
-flaw-read : (r : RulesSoFar) (list table : List ℕ) (f : Flaw) → firstFlaw (r .flaw) (pick (eqb (r .lines) 0) NoLine Nothing) ≡ f → (flawNumber f ≡ 0 → ⊥)
+flaw-read : (r : RulesSoFar) (list table : List ℕ) (f : Flaw) → firstFlaw (r .flaw) (endFlaw r) ≡ f → (flawNumber f ≡ 0 → ⊥)
     → tabledFlaw r list table ≡ f
 flaw-read r list table f is some = go (eqb (flawNumber (r .flaw)) 0) refl (eqb (r .lines) 0) refl
   where
@@ -104,16 +101,13 @@ flaw-read r list table f is some = go (eqb (flawNumber (r .flaw)) 0) refl (eqb (
     go : (s : Bool) → eqb (flawNumber (r .flaw)) 0 ≡ s → (t : Bool) → eqb (r .lines) 0 ≡ t → tabledFlaw r list table ≡ f
     go false p t q =
         let flawed = eqb-false (flawNumber (r .flaw)) 0 p in
-        sym (tabled-flawed r list table flawed .finds) ∙ sym (first-some (r .flaw) (pick (eqb (r .lines) 0) NoLine Nothing) flawed) ∙ is
+        sym (tabled-flawed r list table flawed .finds) ∙ sym (first-some (r .flaw) (endFlaw r) flawed) ∙ is
     go true p t q =
         let fine = eqb-true (flawNumber (r .flaw)) 0 p in
-        ended t q fine (ap (λ u. pick u NoLine Nothing) (sym q) ∙ sym (first-none (r .flaw) (pick (eqb (r .lines) 0) NoLine Nothing) fine) ∙ is)
+        ended t q fine (ap (λ u. pick u NoLine Nothing) (sym q) ∙ sym (first-none (r .flaw) (endFlaw r) fine) ∙ is)
 
 -- ---- a whole file
 module _ (ls : List (List ℕ)) (y : Judged RulesSoFar) (table : List ℕ) (at : Come ls y) (room : mostTable ≤ length table) where
-  own-fine : flawNumber (readingFlaw ls) ≡ 0 → flawNumber (y .own .flaw) ≡ 0
-  own-fine none = first-fine (y .own .flaw) (pick (eqb (y .own .lines) 0) NoLine Nothing) (ap flawNumber (at .flaw) ∙ none)
-
   reading-fine : flawNumber (fileFlaw ls) ≡ 0 → flawNumber (readingFlaw ls) ≡ 0
   reading-fine none = first-fine (readingFlaw ls) (listFlaw (rulesFrom ls)) none
 
@@ -123,7 +117,7 @@ module _ (ls : List (List ℕ)) (y : Judged RulesSoFar) (table : List ℕ) (at :
       go : (t : Bool) → eqb (flawNumber (readingFlaw ls)) 0 ≡ t → tabledFlaw (y .own) (y .run) table ≡ fileFlaw ls
       go true e =
           let none = eqb-true (flawNumber (readingFlaw ls)) 0 e in
-          flaw-stood ls y table room (at .stood none) (own-fine none) ∙ sym (first-none (readingFlaw ls) (listFlaw (rulesFrom ls)) none)
+          flaw-stood ls y table room (at .stood none) (own-fine at none) ∙ sym (first-none (readingFlaw ls) (listFlaw (rulesFrom ls)) none)
       go false e =
           let some = eqb-false (flawNumber (readingFlaw ls)) 0 e in
           flaw-read (y .own) (y .run) table (readingFlaw ls) (at .flaw) some ∙ sym (first-some (readingFlaw ls) (listFlaw (rulesFrom ls)) some)
@@ -134,16 +128,7 @@ module _ (ls : List (List ℕ)) (y : Judged RulesSoFar) (table : List ℕ) (at :
       let s = at .stood fine in
       let checked : listFault (rulesFrom ls) .number ≡ 0
       = sym (list-number (rulesFrom ls) (stood-shaped ls y s)) ∙ ap flawNumber (sym (first-none (readingFlaw ls) (listFlaw (rulesFrom ls)) fine)) ∙ none in
-      table-stood ls y table room s (own-fine fine) checked
+      table-stood ls y table room s (own-fine at fine) checked
 
   pub tabled : TableStands ls y table
-  tabled =
-      let long = tabled-long (y .own) (y .run) table in
-      record {
-        flaw = flaw-here;
-        list = λ none. list-is ls y table room (at .stood (reading-fine none));
-        built = built-here;
-        counts = omega arith;
-        within = omega arith;
-        long = long;
-      }
+  tabled = record { flaw = flaw-here; list = λ none. list-is ls y table room (at .stood (reading-fine none)); built = built-here }

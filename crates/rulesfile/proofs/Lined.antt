@@ -20,8 +20,7 @@ use Rattle.lists.specs.Limits.{mostRules}
 use Rattle.text.specs.Rows.{inFront, allNumbers, valuesOf, badIn, Reading, begin, readCells}
 use Rattle.text.specs.Lines.{cellsOf, feedIn, wholeLine}
 use Rattle.text.specs.Judging.{judgedLines}
-use Rattle.text.proofs.Rows.{bad-first}
-use Rattle.text.proofs.Counted.{cells-bad, bad-none, cells-count, cells-run, cells-long}
+use Rattle.text.proofs.Counted.{line-bad, bad-none, cells-count, cells-run, cells-long}
 use Rattle.rulesfile.specs.Faults.{mostCells}
 use Rattle.rulesfile.specs.Flaws.{lineFlaw, countIn, flawOn}
 use Rattle.flaws.specs.Numbered.{flawNumber}
@@ -76,7 +75,7 @@ module _ (i w : ℕ) (l run : List ℕ) where
 
   flaw-is : flawOn i w l ≡ flawHere (rulesSoFar i w Nothing) (wholeLine (i * w) run l .line)
   flaw-is =
-      ap (λ k. lineFlaw i w (feedIn l) k (countIn l)) (sym (cells-bad (i * w) (begin run) (cellsOf l) ∙ bad-first 0 (badIn 0 (cellsOf l)) refl))
+      ap (λ k. lineFlaw i w (feedIn l) k (countIn l)) (sym (line-bad (i * w) run (cellsOf l)))
       ∙ ap (lineFlaw i w (feedIn l) (readTo .row .bad)) (sym (cells-count (i * w) (begin run) (cellsOf l)))
 
   pub line-flawed : (flawNumber (flawOn i w l) ≡ 0 → ⊥) → judgedBy (rulesSoFar i w Nothing) (wholeLine (i * w) run l .line) ≡ rulesSoFar i w (flawOn i w l)

@@ -1,5 +1,5 @@
 -- The number of a flaw is 01's fault (`specs/Flaws.antt`, `specs/Faults.antt`): the flaw counts cells as the reader does, the
--- fault counts them truly, and no fault is told differently for a count past 65,536, which is not exact.
+-- fault counts them truly, and no fault is told differently for a count past `countedTo`, which is not exact.
 --     first-number                  the first of two flaws
 --     count-few                     a count of at most 16 is exact
 --     line-number                   a line after one of at most 16 cells
@@ -17,7 +17,7 @@ use lib.Dec.{ltb, leb, eqb}
 use lib.ListN.{length}
 use Rattle.ranges.specs.Numbers.{pick}
 use Rattle.lists.specs.Limits.{mostRules}
-use Rattle.text.specs.Rows.{allNumbers, manyMore, badIn}
+use Rattle.text.specs.Rows.{allNumbers, exactBelow, manyMore, badIn}
 use Rattle.text.specs.Lines.{cellsOf, feedIn}
 use Rattle.text.proofs.Counted.{bad-none, many-either, many-same}
 use Rattle.rulesfile.specs.Faults.{firstFault, mostCells, widthFault, cellsFault, lineFault, linesFault, readingFault}
@@ -60,7 +60,7 @@ counts-number i w feed bad k = go (leb mostRules i) (eqb bad 0) (eqb i 0) (eqb k
     go false false z s false = refl
 
 -- ---- the count
--- past 65,536 it is even or odd as it should be, and too large either way
+-- past `countedTo` it is even or odd as it should be, and too large either way
 width-count : (cs : List (List ℕ)) → widthFault (manyMore 0 cs) ≡ widthFault (length cs)
 unfolding widthFault
 width-count cs =
@@ -73,12 +73,12 @@ width-count cs =
 fault-count : (i w : ℕ) (g : Bool) (cs : List (List ℕ)) → w ≤ mostCells → cellsFault i w g (manyMore 0 cs) ≡ cellsFault i w g (length cs)
 unfolding cellsFault
 fault-count i w g cs le =
-    let small : w < 65535 = omega arith in
+    let small : w < exactBelow = omega arith in
     rw (width-count cs, many-same cs w small)
 
 pub count-few : (l : List ℕ) → countIn l ≤ mostCells → countIn l ≡ length (cellsOf l)
 count-few l few =
-    let small : countIn l < 65535 = omega arith in
+    let small : countIn l < exactBelow = omega arith in
     sym (eqb-true (length (cellsOf l)) (countIn l) (sym (many-same (cellsOf l) (countIn l) small) ∙ eq-eqb (countIn l) (countIn l) refl))
 
 -- ---- a line

@@ -22,14 +22,12 @@ use Rattle.text.specs.Judging.{Judged, judged, Over, overByte, overClose, overB
 use Rattle.text.proofs.Rows.{kept-long}
 use Rattle.text.proofs.Feeding.{fed-append}
 use Rattle.text.proofs.Keeping.{fed-keeps, finish-keeps}
-use Rattle.rulesfile.specs.Flaws.{firstFlaw, readingFlaw}
+use Rattle.rulesfile.specs.Flaws.{firstFlaw}
 use Rattle.flaws.specs.Numbered.{flawNumber}
 use Rattle.rulesfile.specs.Bytes.{noRules, lineAt, judgedBy, judgeRules, rulesInFile, rulesStep, rulesEnd, rulesPieces}
-use Rattle.flaws.specs.declared.flaw.Flaw.the-variants.{Nothing, NoLine}
 use Rattle.rulesfile.specs.declared.file.RulesSoFar.{RulesSoFar}
-use Rattle.rulesfile.proofs.Flaws.{first-fine}
 use Rattle.rulesfile.proofs.Steps.{judged-kept}
-use Rattle.rulesfile.proofs.Come.{Come, Stood, rules-read}
+use Rattle.rulesfile.proofs.Come.{endFlaw, Come, Stood, own-fine, rules-read}
 
 -- ---- after a flaw
 module _ (r : RulesSoFar) (some : flawNumber (r .flaw) ≡ 0 → ⊥) where
@@ -123,14 +121,11 @@ pieces-alike (p ∷ ps) s =
 come-alike : (ls : List (List ℕ)) (x y : Judged RulesSoFar) → Alike x y → length (x .run) ≡ mostNumbers → Come ls y → Come ls x
 come-alike ls x y alike long at =
     record {
-      flaw = ap (λ r. firstFlaw (r .flaw) (pick (eqb (r .lines) 0) NoLine Nothing)) (alike .own) ∙ at .flaw;
+      flaw = ap (λ r. firstFlaw (r .flaw) (endFlaw r)) (alike .own) ∙ at .flaw;
       stood = λ none.
-          subst (λ r. Stood ls (judged r (x .run))) (sym (alike .own)) (subst (λ l. Stood ls (judged (y .own) l)) (sym (alike .run (none-own none))) (at .stood none));
+          subst (λ r. Stood ls (judged r (x .run))) (sym (alike .own)) (subst (λ l. Stood ls (judged (y .own) l)) (sym (alike .run (own-fine at none))) (at .stood none));
       long = long;
     }
-  where
-    none-own : flawNumber (readingFlaw ls) ≡ 0 → flawNumber (y .own .flaw) ≡ 0
-    none-own none = first-fine (y .own .flaw) (pick (eqb (y .own .lines) 0) NoLine Nothing) (ap flawNumber (at .flaw) ∙ none)
 
 -- a rules file in pieces, read into a list of 16,384 numbers to its end or to its first flaw, comes to what its lines say
 pub pieces-read : (ps : List (List ℕ)) (list : List ℕ) → length list ≡ mostNumbers → Come (linesOf (flatten ps)) (rulesPieces (rulesInFile noRules list) ps)

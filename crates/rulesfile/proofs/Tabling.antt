@@ -4,7 +4,7 @@
 --     built-fine, built-refused                      what the build of a list finds
 --     built-list                                     in a run of the right length, that is what the list's check finds
 --     tabled-flawed, tabled-no-line, tabled-built    the flaw of the rules and the run for the table, way by way
---     after-long, tabled-long                        a build leaves a run as long as it was, and so do the rules
+--     after-long                                     a build leaves a run as long as it was
 -- Assumes nothing.
 use Prim.Native.Nat.{ℕ, _+_, _/_, _<_}
 use mathlib.Core.Bool.{Bool, true, false}
@@ -13,7 +13,6 @@ use mathlib.Core.Path.{_≡_, refl, sym, _∙_}
 use native.Mathlib.Omega.{arith}
 use borrow.Author.Tests.{eq-eqb, ne-eqb, eqb-true, ltb-true}
 use lib.ListN.{length, getD, take, drop}
-use lib.Seq.{length-front}
 use lib.Dec.{ltb, eqb}
 use Rattle.ranges.specs.Numbers.{pick, least}
 use Rattle.ranges.specs.Refusals.{none, refused, refusedAt, stands, countUnless, BadFields, BadLength, TooManyRules, LowAboveHigh, BadTableLength}
@@ -32,9 +31,9 @@ use Rattle.sorting.specs.Table.{builtTable}
 use Rattle.sorting.specs.Build.{buildFault, builtParts, buildOf, tableAfter}
 use Rattle.sorting.proofs.Sorted.Reading.{table-sized}
 use Rattle.sorting.proofs.Answering.BuildFaults.{buildable}
-use Rattle.rulesfile.specs.Flaws.{flawless, flawAt, listFlaw}
+use Rattle.rulesfile.specs.Flaws.{flawAt, listFlaw}
 use Rattle.flaws.specs.Numbered.{flawNumber}
-use Rattle.rulesfile.specs.Tabled.{lengthRead, listRead, roomRead, builtFlaw, tabledFlaw, tabledAfter, Tabled}
+use Rattle.rulesfile.specs.Tabled.{lengthRead, roomRead, builtFlaw, tabledFlaw, tabledAfter, Tabled}
 use Rattle.flaws.specs.declared.flaw.Flaw.{Flaw}
 use Rattle.flaws.specs.declared.flaw.Flaw.the-variants.{Nothing, NoLine, LowAboveHigh as LowAbove}
 use Rattle.rulesfile.specs.declared.file.RulesSoFar.{RulesSoFar}
@@ -153,15 +152,3 @@ after-long R T = go (stands (buildFault R T)) refl
     go : (t : Bool) → stands (buildFault R T) ≡ t → length (pick t (builtTable R) T) ≡ length T
     go true e = table-sized R (firstFit R (rulesIn R)) .long ∙ sym (buildable R T (eqb-true (buildFault R T .number) 0 e) .sized .long)
     go false e = refl
-
-pub tabled-long : (r : RulesSoFar) (list table : List ℕ) → length (tabledAfter r list table) ≡ length table
-unfolding tabledAfter
-tabled-long r list table = go (flawless (r .flaw)) (eqb (r .lines) 0)
-  where
-    front : List ℕ
-    front = take (roomRead r table) table
-
-    go : (s t : Bool) → length (pick s (pick t table (tableAfter (listRead r list) front ++ drop (roomRead r table) table)) table) ≡ length table
-    go true true = refl
-    go true false = length-front table (tableAfter (listRead r list) front) (roomRead r table) (after-long (listRead r list) front)
-    go false t = refl

@@ -1,5 +1,5 @@
 -- The first flaw of a rules file, and where it is: for each fault of `Faults.antt` the line and the cell that a person looks
--- for. Lines and cells count from 1, rules and fields from 0. Cells are counted as the reader does, exactly up to 65,536.
+-- for. Lines and cells count from 1, rules and fields from 0. Cells are counted as the reader does (`countedTo`).
 -- That a flaw's number is the fault's is `flaw-number-is` of `proofs/Theorems.antt`.
 -- Assumes nothing: these are definitions.
 use Prim.Native.Nat.{ℕ, _+_, _%_}

@@ -1,12 +1,12 @@
 -- What a whole line's cells come to (`readCells` of `specs/Rows.antt`): whether all are numbers, how many they are, and
 -- where their numbers stand in the run.
 --     number-is                             a cell that is a number
---     cells-bad, bad-none, cells-good       the first that is no number, if any
+--     line-bad, bad-none, cells-good        the first that is no number, if any
 --     cells-count, cells-run                what cells come to
 --     cells-long                            the run keeps its length
 --     values-length                         as many numbers as cells
---     many-either                           the count is exact, or it and the true one are past 65,534 and even or odd alike
---     many-same                             it tells a count below 65,535 from every other
+--     many-either                           the count is exact, or it and the true one are at least `exactBelow` and even or odd alike
+--     many-same                             it tells a count below `exactBelow` from every other
 -- Assumes nothing.
 use Prim.Native.Nat.{ℕ, suc, _+_, _-_, _%_, _≤_, _<_}
 use mathlib.Core.Bool.{Bool, true, false}
@@ -20,7 +20,7 @@ use lib.Seq.{sets}
 use Rattle.ranges.specs.Numbers.{pick, _and_}
 use Rattle.ranges.proofs.Numbers.{never, and-left, and-right}
 use Rattle.text.specs.Cells.{wholeCell, isNumber, readable, valueOf}
-use Rattle.text.specs.Rows.{allNumbers, valuesOf, oneMore, manyMore, badIn, firstBad, badAfter, good, keptAs, Reading, begin, readCell, readCells}
+use Rattle.text.specs.Rows.{allNumbers, valuesOf, countedTo, exactBelow, oneMore, manyMore, badIn, firstBad, badAfter, good, keptAs, Reading, begin, readCell, readCells}
 use Rattle.text.specs.declared.cell.Cell.{Cell}
 use Rattle.text.specs.declared.cell.Cell.the-variants.{Empty, Number, Bad}
 use Rattle.text.proofs.Rows.{more-few, more-many, bad-first, bad-before, kept-length}
@@ -36,11 +36,11 @@ number-is (b ∷ bs) e = go (readable (b ∷ bs)) e
 
 -- ---- the first that is no number
 more-some : (k : ℕ) → oneMore k ≡ 0 → ⊥
-more-some k = go (ltb k 65536) refl
+more-some k = go (ltb k countedTo) refl
   where
-    go : (t : Bool) → ltb k 65536 ≡ t → oneMore k ≡ 0 → ⊥
-    go true e none = let one = more-few k (ltb-true k 65536 e) in omega arith
-    go false e none = let many = ltb-false k 65536 e in let one = more-many k many in omega arith
+    go : (t : Bool) → ltb k countedTo ≡ t → oneMore k ≡ 0 → ⊥
+    go true e none = let one = more-few k (ltb-true k countedTo e) in omega arith
+    go false e none = let many = ltb-false k countedTo e in let one = more-many k many in omega arith
 
 -- after cells of which the k-th is the first bad one, whatever follows
 first-kept : (bad k m : ℕ) → (k ≡ 0 → ⊥) → firstBad (firstBad bad k) m ≡ firstBad bad k
@@ -58,7 +58,7 @@ first-none bad = go (eqb bad 0) refl
     go true e = let none = eqb-true bad 0 e in bad-first bad 0 none ∙ sym none
     go false e = bad-before bad 0 (eqb-false bad 0 e)
 
-pub cells-bad : (from : ℕ) (s : Reading) (cs : List (List ℕ)) → readCells from s cs .row .bad ≡ firstBad (s .row .bad) (badIn (s .row .cells) cs)
+cells-bad : (from : ℕ) (s : Reading) (cs : List (List ℕ)) → readCells from s cs .row .bad ≡ firstBad (s .row .bad) (badIn (s .row .cells) cs)
 cells-bad from s [] = sym (first-none (s .row .bad))
 cells-bad from s (c ∷ cs) = cells-bad from (readCell from s c) cs ∙ go (wholeCell c)
   where
@@ -80,15 +80,19 @@ bad-none k (c ∷ cs) = go (isNumber (wholeCell c)) (bad-none (oneMore k) cs)
     go false follow = ne-eqb (oneMore k) 0 (more-some k)
 
 -- a line read from nothing
-pub cells-good : (from : ℕ) (run : List ℕ) (cs : List (List ℕ)) → good (readCells from (begin run) cs .row) ≡ allNumbers cs
-cells-good from run cs = ap (λ k. eqb k 0) (cells-bad from (begin run) cs ∙ bad-first 0 (badIn 0 cs) refl) ∙ bad-none 0 cs
+module _ (from : ℕ) (run : List ℕ) (cs : List (List ℕ)) where
+  pub line-bad : readCells from (begin run) cs .row .bad ≡ badIn 0 cs
+  line-bad = cells-bad from (begin run) cs ∙ bad-first 0 (badIn 0 cs) refl
+
+  pub cells-good : good (readCells from (begin run) cs .row) ≡ allNumbers cs
+  cells-good = ap (λ k. eqb k 0) line-bad ∙ bad-none 0 cs
 
 -- ---- how many they are
 pub cells-count : (from : ℕ) (s : Reading) (cs : List (List ℕ)) → readCells from s cs .row .cells ≡ manyMore (s .row .cells) cs
 cells-count from s [] = refl
 cells-count from s (c ∷ cs) = cells-count from (readCell from s c) cs
 
-many-few : (cs : List (List ℕ)) (k : ℕ) → k + length cs ≤ 65536 → manyMore k cs ≡ k + length cs
+many-few : (cs : List (List ℕ)) (k : ℕ) → k + length cs ≤ countedTo → manyMore k cs ≡ k + length cs
 many-few [] k few = omega arith
 many-few (c ∷ cs) k few =
     let one : oneMore k ≡ k + 1 = more-few k (omega arith) in
@@ -96,31 +100,31 @@ many-few (c ∷ cs) k few =
 
 -- one more stays within, and changes even and odd
 record Stepped (k j : ℕ) : Type 0 where
-  pub within : j ≤ 65536
+  pub within : j ≤ countedTo
   pub parity : j % 2 ≡ (k + 1) % 2
 
-stepped : (k : ℕ) → k ≤ 65536 → Stepped k (oneMore k)
-stepped k le = go (ltb k 65536) refl
+stepped : (k : ℕ) → k ≤ countedTo → Stepped k (oneMore k)
+stepped k le = go (ltb k countedTo) refl
   where
-    go : (t : Bool) → ltb k 65536 ≡ t → Stepped k (oneMore k)
+    go : (t : Bool) → ltb k countedTo ≡ t → Stepped k (oneMore k)
     go true e =
-        let lt = ltb-true k 65536 e in
+        let lt = ltb-true k countedTo e in
         let one : oneMore k ≡ k + 1 = more-few k lt in
         record { within = omega arith; parity = ap (λ j. j % 2) one }
     go false e =
-        let over = ltb-false k 65536 e in
+        let over = ltb-false k countedTo e in
         let one : oneMore k ≡ k - 1 = more-many k over in
         record { within = omega arith; parity = omega arith }
 
-many-large : (cs : List (List ℕ)) (k : ℕ) → k ≤ 65536 → 65535 ≤ k + length cs → 65535 ≤ manyMore k cs
+many-large : (cs : List (List ℕ)) (k : ℕ) → k ≤ countedTo → exactBelow ≤ k + length cs → exactBelow ≤ manyMore k cs
 many-large [] k le large = omega arith
-many-large (c ∷ cs) k le large = many-large cs (oneMore k) (stepped k le .within) (go (ltb k 65536) refl)
+many-large (c ∷ cs) k le large = many-large cs (oneMore k) (stepped k le .within) (go (ltb k countedTo) refl)
   where
-    go : (t : Bool) → ltb k 65536 ≡ t → 65535 ≤ oneMore k + length cs
-    go true e = let lt = ltb-true k 65536 e in let one : oneMore k ≡ k + 1 = more-few k lt in omega arith
-    go false e = let over = ltb-false k 65536 e in let one : oneMore k ≡ k - 1 = more-many k over in omega arith
+    go : (t : Bool) → ltb k countedTo ≡ t → exactBelow ≤ oneMore k + length cs
+    go true e = let lt = ltb-true k countedTo e in let one : oneMore k ≡ k + 1 = more-few k lt in omega arith
+    go false e = let over = ltb-false k countedTo e in let one : oneMore k ≡ k - 1 = more-many k over in omega arith
 
-many-parity : (cs : List (List ℕ)) (k : ℕ) → k ≤ 65536 → manyMore k cs % 2 ≡ (k + length cs) % 2
+many-parity : (cs : List (List ℕ)) (k : ℕ) → k ≤ countedTo → manyMore k cs % 2 ≡ (k + length cs) % 2
 many-parity [] k le = let same : k + 0 ≡ k = omega arith in ap (λ j. j % 2) (sym same)
 many-parity (c ∷ cs) k le =
     let s = stepped k le in
@@ -128,21 +132,21 @@ many-parity (c ∷ cs) k le =
     let parity = s .parity in
     rest ∙ omega arith
 
--- so a count is exact, or it and the true one are both past 65,534 and even or odd alike
+-- so a count is exact, or it and the true one are both at least `exactBelow` and even or odd alike
 pub many-either : {P : Type 0} (cs : List (List ℕ)) → (manyMore 0 cs ≡ length cs → P)
-    → (65535 ≤ manyMore 0 cs → 65535 ≤ length cs → manyMore 0 cs % 2 ≡ length cs % 2 → P) → P
-many-either {P} cs exact past = go (leb (length cs) 65536) refl
+    → (exactBelow ≤ manyMore 0 cs → exactBelow ≤ length cs → manyMore 0 cs % 2 ≡ length cs % 2 → P) → P
+many-either {P} cs exact past = go (leb (length cs) countedTo) refl
   where
-    go : (t : Bool) → leb (length cs) 65536 ≡ t → P
+    go : (t : Bool) → leb (length cs) countedTo ≡ t → P
     go true e =
-        let few = leb-true (length cs) 65536 e in
+        let few = leb-true (length cs) countedTo e in
         exact (omega (arith, many-few cs 0 (omega arith)))
     go false e =
-        let many = leb-false (length cs) 65536 e in
+        let many = leb-false (length cs) countedTo e in
         let zero-in : 0 + length cs ≡ length cs = omega arith in
         past (many-large cs 0 (omega arith) (omega arith)) (omega arith) (many-parity cs 0 (omega arith) ∙ ap (λ k. k % 2) zero-in)
 
-pub many-same : (cs : List (List ℕ)) (w : ℕ) → w < 65535 → eqb (manyMore 0 cs) w ≡ eqb (length cs) w
+pub many-same : (cs : List (List ℕ)) (w : ℕ) → w < exactBelow → eqb (manyMore 0 cs) w ≡ eqb (length cs) w
 many-same cs w lt =
     many-either cs (λ same. rw same) (λ large many parity. ne-eqb (manyMore 0 cs) w (λ is. omega arith) ∙ sym (ne-eqb (length cs) w (λ is. omega arith)))
 
@@ -151,7 +155,7 @@ pub values-length : (cs : List (List ℕ)) → length (valuesOf cs) ≡ length c
 values-length [] = refl
 values-length (c ∷ cs) = ap suc (values-length cs)
 
-pub cells-run : (cs : List (List ℕ)) (from : ℕ) (s : Reading) → allNumbers cs ≡ true → s .row .cells + length cs ≤ 65536
+pub cells-run : (cs : List (List ℕ)) (from : ℕ) (s : Reading) → allNumbers cs ≡ true → s .row .cells + length cs ≤ countedTo
     → readCells from s cs .run ≡ sets (s .run) (from + s .row .cells) (valuesOf cs)
 cells-run [] from s all few = refl
 cells-run (c ∷ cs) from s all few =

@@ -16,20 +16,20 @@ use lib.ListN.{length, set, length-set}
 use lib.Dec.{eqb}
 use Rattle.ranges.specs.Numbers.{pick}
 use Rattle.text.specs.Cells.{fed, withByte}
-use Rattle.text.specs.Rows.{oneMore, firstBad, rowWith, rowNext, keptAs, keptAt, inFront, cellsIn, Reading, begin, ended, within, readByte, readCell, readCells}
+use Rattle.text.specs.Rows.{countedTo, oneMore, firstBad, rowWith, rowNext, keptAs, keptAt, inFront, cellsIn, Reading, begin, ended, within, readByte, readCell, readCells}
 use Rattle.text.proofs.Cells.{cell-is}
 use Rattle.text.specs.declared.cell.Cell.{Cell}
 use Rattle.text.specs.declared.cell.Cell.the-variants.{Empty, Number, Bad}
 use Rattle.text.specs.declared.row.Row.{Row}
 
 -- ---- one cell more
-pub more-few : (k : ℕ) → k < 65536 → oneMore k ≡ k + 1
+pub more-few : (k : ℕ) → k < countedTo → oneMore k ≡ k + 1
 unfolding oneMore
-more-few k lt = rw (lt-ltb k 65536 lt)
+more-few k lt = rw (lt-ltb k countedTo lt)
 
-pub more-many : (k : ℕ) → 65536 ≤ k → oneMore k ≡ k - 1
+pub more-many : (k : ℕ) → countedTo ≤ k → oneMore k ≡ k - 1
 unfolding oneMore
-more-many k le = rw (le-ltb k 65536 le)
+more-many k le = rw (le-ltb k countedTo le)
 
 -- ---- the first cell that is no number
 pub bad-first : (bad k : ℕ) → bad ≡ 0 → firstBad bad k ≡ k

@@ -38,9 +38,17 @@ valuesOf (c ∷ cs) = valueOf c ∷ valuesOf cs
 abbrev pub fresh : Row
 fresh = record { cell = Empty; cells = 0; bad = 0 }
 
--- one cell more: exactly up to 65,536, and past that even or odd as it should be and above 65,534
+-- cells are counted exactly up to here, and past that to and fro, even or odd as it should be
+abbrev pub countedTo : ℕ
+countedTo = 65536
+
+-- a count below this is exact
+abbrev pub exactBelow : ℕ
+exactBelow = countedTo - 1
+
+-- one cell more
 unfoldable pub oneMore : ℕ → ℕ
-oneMore k = pick (ltb k 65536) (k + 1) (k - 1)
+oneMore k = pick (ltb k countedTo) (k + 1) (k - 1)
 
 -- k cells and then these
 abbrev pub manyMore : ℕ → List (List ℕ) → ℕ

@@ -25,12 +25,18 @@ pub fn row_start() -> Row
     }
 }
 
-// Counts one cell more, exactly up to 65,536. Past that, where no program tells one count from another, it stays
-// even or odd as it should and above 65,534.
+// Cells are counted exactly up to here. Past that, where no program tells one count from another, the count goes to and
+// fro, so that it stays even or odd as it should.
+const COUNTED_TO: u32 = 65536;
+
+// A count below this is exact.
+pub const EXACT_BELOW: u32 = COUNTED_TO - 1;
+
+// Counts one cell more.
 fn one_more(cells: u32) -> u32
     ensures { λ r. ⌜ r ≡ oneMore cells ⌝ }
 {
-    if cells < 65536 {
+    if cells < COUNTED_TO {
         return cells + 1;
     }
     cells - 1
