@@ -30,7 +30,7 @@ use Rattle.rulesfile.specs.Tabled.{lengthRead, listRead, roomRead}
 use Rattle.rulesfile.specs.declared.file.RulesSoFar.{RulesSoFar}
 use Rattle.rulesfile.specs.declared.file.RulesFile.{RulesFile}
 use Rattle.gateway.specs.HeaderBytes.{noHeaders, Answered, answered, headerAt, judgeHeader, headersInFile, headersStep, headersFed, headersEnd, HeadersPiece}
-use Rattle.gateway.specs.Serving.{Readied, RulesOver, RulesEnded, RulesFrom, RulesReadFrom, quiet, TurnTook, HeadersOver, HeadersEnded, headersAfter, HeadersFrom, HeadersReadFrom}
+use Rattle.gateway.specs.Serving.{Readied, RulesOver, RulesEnded, RulesFrom, RulesReadFrom, quiet, TurnTook, HeadersOver, HeadersLost, HeadersEnded, headersAfter, HeadersReadFrom}
 use Rattle.gateway.specs.declared.input.Got.{Got}
 use Rattle.gateway.specs.declared.input.Got.the-variants.{Bytes, End, Folder, Failed}
 use Rattle.gateway.specs.declared.read_rules.RulesRead.{RulesRead}
@@ -167,11 +167,6 @@ module _ (R : Rules) (T header : List ℕ) where
   unfolding flatten
   headers-start out is = record { pieces = []; long = refl; state = rw is }
 
-  -- a file that can't be opened comes from no piece
-  pub headers-none : {file : HeadersFile} → file ≡ noHeaders → HeadersFrom R T header (file .headers)
-  unfolding flatten finish lastLine
-  headers-none is = record { pieces = []; are = ap (λ f. f .headers) is }
-
   module _ {n : ℕ} {file : HeadersFile} {left out : List ℕ} (before : HeadersOn R T header n file left out) where
     headers-over : (r : HeadersRead) → HeadersOver R T file left r → HeadersReadFrom R T header r
     headers-over (HeadersAre headers) ends =
@@ -182,13 +177,16 @@ module _ (R : Rules) (T header : List ℕ) where
     headers-over (Stopped headers) ends = absurd ends
     headers-over NoHeaders ends = tt
 
+    headers-lost : (r : HeadersRead) → HeadersLost file r → HeadersReadFrom R T header r
+    headers-lost (HeadersAre headers) ends = absurd ends
+    headers-lost (Stopped headers) ends = record { pieces = before .pieces; are = ends ∙ ap (λ s. s .at .own .headers) (before .state) }
+    headers-lost NoHeaders ends = absurd ends
+
     pub headers-ended : (got : Got) (r : HeadersRead) → HeadersEnded got R T file left r → HeadersReadFrom R T header r
     headers-ended (Bytes k) r ends = headers-over r ends
     headers-ended End r ends = headers-over r ends
-    headers-ended Folder r ends = headers-over r ends
-    headers-ended Failed (HeadersAre headers) ends = absurd ends
-    headers-ended Failed (Stopped headers) ends = record { pieces = before .pieces; are = ends ∙ ap (λ s. s .at .own .headers) (before .state) }
-    headers-ended Failed NoHeaders ends = absurd ends
+    headers-ended Folder r ends = headers-lost r ends
+    headers-ended Failed r ends = headers-lost r ends
 
     pub headers-more : (p : List ℕ) {r : Turn} {left' after : List ℕ} → TurnTook R T file p left r left' → r .going ≡ true → length after ≡ length out
         → HeadersOn R T header n (r .file) left' after
@@ -206,6 +204,10 @@ module _ (R : Rules) (T header : List ℕ) where
               ∙ ap quiet (sym (fed-append (headersStep R T) (headersInFile noHeaders header []) (flatten (before .pieces)) p))
               ∙ ap (λ bs. quiet (fed (headersStep R T) (headersInFile noHeaders header []) bs)) (flatten-more (before .pieces) p);
         }
+
+  -- a file that can't be opened comes from no piece
+  pub headers-none : {file : HeadersFile} → file ≡ noHeaders → (r : HeadersRead) → HeadersLost file r → HeadersReadFrom R T header r
+  headers-none is r lost = headers-lost (headers-start [] is) r lost
 
 -- by the list and the table at the front of what is lent, whose lengths the code works out
 pub read-at-front : (rules : RulesSoFar) (list table header : List ℕ) (r : HeadersRead) {shape : Shape} {k t : ℕ}

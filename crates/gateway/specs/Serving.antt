@@ -82,7 +82,7 @@ HeadersOver R T f header (HeadersAre headers) = headers ≡ headersEnd R T (head
 HeadersOver R T f header (Stopped headers) = ⊥
 HeadersOver R T f header NoHeaders = Unit {0}
 
--- it can't be read further
+-- it can't be read further, or is a folder: a last line that has begun is left
 abbrev pub HeadersLost : HeadersFile → HeadersRead → Type 0
 HeadersLost f (HeadersAre headers) = ⊥
 HeadersLost f (Stopped headers) = headers ≡ f .headers
@@ -92,7 +92,7 @@ HeadersLost f NoHeaders = ⊥
 abbrev pub HeadersEnded : Got → Rules → List ℕ → HeadersFile → List ℕ → HeadersRead → Type 0
 HeadersEnded (Bytes k) R T f header = HeadersOver R T f header
 HeadersEnded End R T f header = HeadersOver R T f header
-HeadersEnded Folder R T f header = HeadersOver R T f header
+HeadersEnded Folder R T f header = HeadersLost f
 HeadersEnded Failed R T f header = HeadersLost f
 
 -- the state after pieces

@@ -18,7 +18,7 @@ ghost use lib.ListN.{length, take};
 ghost use Rattle.answers.specs.Said.{lineMost};
 ghost use Rattle.lists.specs.Rules.{listed};
 ghost use Rattle.rulesfile.specs.Tabled.{listRead, roomRead};
-ghost use Rattle.gateway.specs.Serving.{TurnTook, HeadersOver, HeadersEnded, HeadersReadFrom};
+ghost use Rattle.gateway.specs.Serving.{TurnTook, HeadersOver, HeadersLost, HeadersEnded, HeadersReadFrom};
 
 // What is left after a piece: the headers, and whether what they printed was written.
 pub struct Turn {
@@ -60,11 +60,20 @@ fn answer_piece(
 
 // What reading the headers has come to.
 pub enum HeadersRead {
+    // All of the file's lines.
     Are(HeadersSoFar),
-    // The file can't be read further, and that has been said.
+    // The file can't be opened or read further, or is a folder, and that has been said: the lines so far.
     Stopped(HeadersSoFar),
     // What was answered can't be written, and that has been said.
     Failed,
+}
+
+// Leaves the file where it has come to.
+fn stopped_at(file: HeadersFile) -> HeadersRead
+    ensures { λ r. ⌜ HeadersLost file r ⌝ }
+{
+    let headers = file.headers;
+    HeadersRead::Stopped(headers)
 }
 
 // Ends the file: answers a last line that no CRLF ends, and writes the answer.
@@ -88,7 +97,7 @@ fn end_answers(
 }
 
 // Ends the file, after a read that brought no bytes: a last line that no CRLF ends is answered, but not where the file
-// can't be read further.
+// can't be read further or is a folder.
 fn end_headers(
     got: Got,
     file: HeadersFile,
@@ -104,11 +113,8 @@ fn end_headers(
     match got {
         Got::Bytes(n) => end_answers(file, shape, list, table, header, out),
         Got::End => end_answers(file, shape, list, table, header, out),
-        Got::Folder => end_answers(file, shape, list, table, header, out),
-        Got::Failed => {
-            let headers = file.headers;
-            HeadersRead::Stopped(headers)
-        }
+        Got::Folder => stopped_at(file),
+        Got::Failed => stopped_at(file),
     }
 }
 
@@ -162,9 +168,7 @@ pub(crate) fn answer_headers(
 {
     let fd = open_input(path);
     if fd < 0 {
-        let none = headers_start();
-        let headers = none.headers;
-        return HeadersRead::Are(headers);
+        return stopped_at(headers_start());
     }
     let shape = rules_shape(rules);
     let k = rules_length(rules, list);

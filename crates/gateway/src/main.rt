@@ -4,8 +4,11 @@
 //     gateway                     reads rules.csv and headers.csv of the current folder
 //     gateway RULES HEADERS       reads the files named; - names standard input, once
 //     gateway --help              says this
+//     gateway --status ..         any of these, and tells its exit status (the crate `programs`)
 //
-// Standard output has what 01 fixes. What is wrong with a file, and where, is one line on standard error.
+// Standard output has what 01 fixes. What is wrong with a file, and where, is one line on standard error. The status is 0
+// where the rules stand and every header line was answered, 1 where the rules are refused or a file can't be read or the
+// answers can't be written, 2 for wrong use.
 //
 // A file is read in pieces, cut anywhere, through a state held by value: nothing of a file is kept but the list, of at
 // most `MOST_NUMBERS`, and that state. The rules are read by the crate `rulesfile`; their table is built once, and their
@@ -25,16 +28,24 @@ mod serve;
 
 use input::is_stdin;
 use libc::STDERR_FILENO;
-use libc::STDOUT_FILENO;
 use lists::shape::MOST_NUMBERS;
+use programs::output::write_text;
+use programs::start::Start;
+use programs::start::is_own;
+use programs::start::own_word;
+use programs::start::started;
+use programs::status::Ended;
+use programs::status::ended_by;
+use programs::status::tell_status;
 use serve::serve_files;
 use tables::layout::MOST_TABLE;
 ghost use mathlib.Core.Path.{_≡_};
 ghost use Rattle.ranges.specs.Numbers.{_and_};
 ghost use Rattle.gateway.specs.Serving.{isStdin};
 
-// Lends the runs that the work needs: room for the longest list and for the longest table.
-fn run(rules_path: &[u8], headers_path: &[u8]) {
+// Lends the runs that the work needs, room for the longest list and for the longest table, and says whether the job was
+// done.
+fn run(rules_path: &[u8], headers_path: &[u8]) -> bool {
     let mut bytes = io::large_buffer();
     let mut list = [0u32; MOST_NUMBERS];
     let mut table = [0u16; MOST_TABLE];
@@ -48,31 +59,31 @@ fn run(rules_path: &[u8], headers_path: &[u8]) {
         &mut table,
         &mut header,
         &mut out,
-    );
+    )
 }
 
-// Does the work on the two files that the arguments name.
-fn run_named() {
+// Does the work on the two files that the own words name.
+fn run_named(asked: bool) -> Ended {
     let mut rules_path = io::buffer();
-    let r = os::arg(1, &mut rules_path);
+    let r = own_word(asked, 0, &mut rules_path);
     if os::errno() != 0 {
         os::fail(b"gateway: first argument");
-        return;
+        return Ended::Misused;
     }
     let mut headers_path = io::buffer();
-    let h = os::arg(2, &mut headers_path);
+    let h = own_word(asked, 1, &mut headers_path);
     if os::errno() != 0 {
         os::fail(b"gateway: second argument");
-        return;
+        return Ended::Misused;
     }
     if names_twice(&rules_path[..r], &headers_path[..h]) {
         io::write_all(
             STDERR_FILENO,
             b"gateway: standard input can be named once, for the rules or for the headers\n",
         );
-        return;
+        return Ended::Misused;
     }
-    run(&rules_path[..r], &headers_path[..h]);
+    ended_by(run(&rules_path[..r], &headers_path[..h]))
 }
 
 // Says whether two names are both that of standard input.
@@ -85,37 +96,38 @@ fn names_twice(one: &[u8], other: &[u8]) -> bool
     false
 }
 
-// Says whether the first argument is --help.
-fn asks_for_help() -> bool {
-    let mut word = io::buffer();
-    let n = os::arg(1, &mut word);
-    if os::errno() != 0 {
-        return false;
+// Does what the own words ask for.
+fn run_words(start: Start) -> Ended {
+    let asked = start.asked;
+    let words = start.words;
+    if words == 0 {
+        return ended_by(run(b"rules.csv", b"headers.csv"));
     }
-    check::same(&word[..n], b"--help")
-}
-
-fn main() {
-    let count = os::arg_count();
-    if count == 1 {
-        run(b"rules.csv", b"headers.csv");
-        return;
+    if words == 2 {
+        return run_named(asked);
     }
-    if count == 3 {
-        run_named();
-        return;
-    }
-    if count == 2 {
-        if asks_for_help() {
-            io::write_all(
-                STDOUT_FILENO,
-                b"usage: gateway [RULES HEADERS]\nReads rules.csv and headers.csv of the current folder, or the two files named (- is standard input), and prints\nrule,tests and for each header line the first rule that fits and the number of range tests.\nWhat is wrong with a file, and where, is said on standard error.\n",
-            );
-            return;
+    if words == 1 {
+        if is_own(asked, 0, b"--help") {
+            return ended_by(write_text(
+                b"gateway: write",
+                b"\
+usage: gateway [RULES HEADERS]\n\
+Reads rules.csv and headers.csv of the current folder, or the two files named (- is standard input), and prints\n\
+rule,tests and for each header line the first rule that fits and the number of range tests.\n\
+What is wrong with a file, and where, is said on standard error.\n\
+Exit status, by ./run or as installed: 0 where every header line was answered, 1 where the rules are refused or\n\
+something can't be read or written, 2 for wrong use.\n",
+            ));
         }
     }
     io::write_all(
         STDERR_FILENO,
         b"usage: gateway [RULES HEADERS] | gateway --help\n",
     );
+    Ended::Misused
+}
+
+fn main() {
+    let start = started();
+    tell_status(start.asked, run_words(start));
 }

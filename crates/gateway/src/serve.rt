@@ -1,7 +1,6 @@
 // The whole job on two files: the rules are read and their table is built, then each header is answered.
 use crate::answer_headers::HeadersRead;
 use crate::answer_headers::answer_headers;
-use crate::output::write_error;
 use crate::output::write_out;
 use crate::read_rules::RulesRead;
 use crate::read_rules::read_rules;
@@ -11,10 +10,15 @@ use answers::open::open_rules;
 use flaws::flaw::Flaw;
 use flaws::flaw::flaw_number;
 use flaws::say::put_complaint;
+use programs::output::write_error;
 use rulesfile::file::RulesSoFar;
 use rulesfile::table::rules_shape;
 ghost use Prim.Native.Nat.{_≤_};
+ghost use mathlib.Core.Bool.{true};
+ghost use mathlib.Core.Path.{_≡_};
 ghost use lib.ListN.{length};
+ghost use Rattle.flaws.specs.Numbered.{flawNumber};
+ghost use Rattle.rulesfile.specs.Tabled.{tabledFlaw};
 ghost use Rattle.answers.specs.Said.{lineMost};
 
 // Says on standard error what is wrong with the rules.
@@ -32,7 +36,8 @@ fn say_refused(headers: HeadersSoFar, d: usize, path: &[u8], out: &mut [u8]) {
     write_error(out, at);
 }
 
-// Answers the headers of rules whose table stands, and says on standard error which of them were refused.
+// Answers the headers of rules whose table stands, says on standard error which of them were refused, and answers whether
+// all were read and answered.
 fn serve_headers(
     rules: RulesSoFar,
     path: &[u8],
@@ -41,19 +46,26 @@ fn serve_headers(
     table: &[u16],
     header: &mut [u32; 8],
     out: &mut [u8],
-)
+) -> bool
     requires { ⌜ lineMost ≤ length (now out) ⌝ }
 {
     let shape = rules_shape(rules);
     let read = answer_headers(rules, path, bytes, list, table, header, out);
     match read {
-        HeadersRead::Are(headers) => say_refused(headers, shape.d, path, out),
-        HeadersRead::Stopped(headers) => say_refused(headers, shape.d, path, out),
-        HeadersRead::Failed => {}
+        HeadersRead::Are(headers) => {
+            say_refused(headers, shape.d, path, out);
+            true
+        }
+        HeadersRead::Stopped(headers) => {
+            say_refused(headers, shape.d, path, out);
+            false
+        }
+        HeadersRead::Failed => false,
     }
 }
 
-// Does 01's job on rules that have been read: prints their refusal, or the answer to each header.
+// Does 01's job on rules that have been read: prints their refusal, or the answer to each header; and answers whether the
+// job was done, which it is not where the rules have a flaw.
 fn serve_rules(
     rules: RulesSoFar,
     told: bool,
@@ -64,24 +76,25 @@ fn serve_rules(
     table: &mut [u16],
     header: &mut [u32; 8],
     out: &mut [u8],
-)
+) -> bool
     requires { ⌜ lineMost ≤ length (now out) ⌝ }
+    ensures { λ r. ⌜ (r ≡ true → flawNumber (tabledFlaw rules (now (list .entry)) (now (table .entry))) ≡ 0) ⌝ }
 {
     let opened = open_rules(rules, list, table, out);
     if !write_out(out, opened.at) {
-        return;
+        return false;
     }
     let flaw = opened.flaw;
     if flaw_number(flaw) == 0 {
-        serve_headers(rules, headers_path, bytes, list, table, header, out);
-        return;
+        return serve_headers(rules, headers_path, bytes, list, table, header, out);
     }
     if !told {
         say_flaw(flaw, rules_path, out);
     }
+    false
 }
 
-// Does 01's job on two files.
+// Does 01's job on two files, and answers whether it was done.
 pub(crate) fn serve_files(
     rules_path: &[u8],
     headers_path: &[u8],
@@ -90,7 +103,7 @@ pub(crate) fn serve_files(
     table: &mut [u16],
     header: &mut [u32; 8],
     out: &mut [u8],
-)
+) -> bool
     requires { ⌜ lineMost ≤ length (now out) ⌝ }
 {
     let read = read_rules(rules_path, bytes, list);
@@ -106,6 +119,6 @@ pub(crate) fn serve_files(
             header,
             out,
         ),
-        RulesRead::Failed => {}
+        RulesRead::Failed => false,
     }
 }

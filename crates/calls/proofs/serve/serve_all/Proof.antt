@@ -7,7 +7,8 @@ use Rattle.calls.proofs.serve.serve_all.Statement.{statement}
 use Rattle.calls.proofs.serve.serve_all.Tie as tie
 
 abbrev Inv-loop : tie.InvT-loop
-Inv-loop bytes₀ name₀ numbers₀ out₀ line₀ turns₀ bytes name numbers out line turns = (length bytes ≡ length bytes₀) × (length name ≡ length name₀) × (length numbers ≡ length numbers₀) × (length out ≡ length out₀)
+Inv-loop bytes₀ name₀ numbers₀ out₀ line₀ turns₀ bytes name numbers out line turns =
+    (length bytes ≡ length bytes₀) × (length name ≡ length name₀) × (length numbers ≡ length numbers₀) × (length out ≡ length out₀)
 
 abbrev μ-loop : tie.MeasureT-loop
 μ-loop bytes₀ name₀ numbers₀ out₀ line₀ turns₀ bytes name numbers out line turns = turns
@@ -21,17 +22,26 @@ loop-holds c = (refl, refl, refl, refl)
 serve-some-requires : tie.Need-serve-some-requires Inv-loop μ-loop
 serve-some-requires c κs = search needs
 
+-- the input has ended, or something failed: the last turn kept the lengths, and so did those before it
 same-length : tie.Need-same-length Inv-loop μ-loop
-same-length c = c .before .before .before .before .before .before .before .before .before .before .serve-some .kept .1 .0 ∙ c .before .before .before .before .before .before .before .before .before .before .before .before .before .before .before .before .loop .inv .0
+same-length c =
+    let served = c .before .before .before .before .before .before .before .before .before .before in
+    served .serve-some .kept .1 .0 ∙ served .before .before .before .before .before .before .loop .inv .0
 
 same-length-2 : tie.Need-same-length-2 Inv-loop μ-loop
-same-length-2 c = c .before .before .before .before .before .before .before .before .before .before .serve-some .kept .1 .1 .0 ∙ c .before .before .before .before .before .before .before .before .before .before .before .before .before .before .before .before .loop .inv .1
+same-length-2 c =
+    let served = c .before .before .before .before .before .before .before .before .before .before in
+    served .serve-some .kept .1 .1 .0 ∙ served .before .before .before .before .before .before .loop .inv .1
 
 same-length-3 : tie.Need-same-length-3 Inv-loop μ-loop
-same-length-3 c = c .before .before .before .before .before .before .before .before .before .before .serve-some .kept .1 .1 .1 .0 ∙ c .before .before .before .before .before .before .before .before .before .before .before .before .before .before .before .before .loop .inv .2
+same-length-3 c =
+    let served = c .before .before .before .before .before .before .before .before .before .before in
+    served .serve-some .kept .1 .1 .1 .0 ∙ served .before .before .before .before .before .before .loop .inv .2
 
 same-length-4 : tie.Need-same-length-4 Inv-loop μ-loop
-same-length-4 c = c .before .before .before .before .before .before .before .before .before .before .serve-some .kept .1 .1 .1 .1 .0 ∙ c .before .before .before .before .before .before .before .before .before .before .before .before .before .before .before .before .loop .inv .3
+same-length-4 c =
+    let served = c .before .before .before .before .before .before .before .before .before .before in
+    served .serve-some .kept .1 .1 .1 .1 .0 ∙ served .before .before .before .before .before .before .loop .inv .3
 
 returns : tie.Need-returns Inv-loop μ-loop
 returns c = search needs
@@ -42,9 +52,15 @@ sub-turns c = search needs
 loop-less : tie.Need-loop-less Inv-loop μ-loop
 loop-less c = search needs
 
+-- another turn
 loop-again : tie.Need-loop-again Inv-loop μ-loop
-loop-again c = (c .before .before .before .before .before .before .before .before .before .before .before .serve-some .kept .1 .0 ∙ c .before .before .before .before .before .before .before .before .before .before .before .before .before .before .before .before .before .loop .inv .0, c .before .before .before .before .before .before .before .before .before .before .before .serve-some .kept .1 .1 .0 ∙ c .before .before .before .before .before .before .before .before .before .before .before .before .before .before .before .before .before .loop .inv .1, c .before .before .before .before .before .before .before .before .before .before .before .serve-some .kept .1 .1 .1 .0 ∙ c .before .before .before .before .before .before .before .before .before .before .before .before .before .before .before .before .before .loop .inv .2, c .before .before .before .before .before .before .before .before .before .before .before .serve-some .kept .1 .1 .1 .1 .0 ∙ c .before .before .before .before .before .before .before .before .before .before .before .before .before .before .before .before .before .loop .inv .3)
+loop-again c =
+    let served = c .before .before .before .before .before .before .before .before .before .before .before in
+    let kept = served .serve-some .kept in
+    let inv = served .before .before .before .before .before .before .loop .inv in
+    (kept .1 .0 ∙ inv .0, kept .1 .1 .0 ∙ inv .1, kept .1 .1 .1 .0 ∙ inv .2, kept .1 .1 .1 .1 .0 ∙ inv .3)
 
+-- the turns are used up
 same-length-5 : tie.Need-same-length-5 Inv-loop μ-loop
 same-length-5 c = c .before .loop .inv .0
 

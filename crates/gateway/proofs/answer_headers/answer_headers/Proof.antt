@@ -15,8 +15,11 @@ open-input-requires c κs = search needs
 headers-start-requires : tie.Need-headers-start-requires
 headers-start-requires c κs = search needs
 
+stopped-at-requires : tie.Need-stopped-at-requires
+stopped-at-requires c κs = search needs
+
 returns : tie.Need-returns
-returns c = headers-none _ _ _ (c .before .headers-start .ensures)
+returns c = headers-none _ _ _ (c .before .headers-start .ensures) (c .stopped-at .result) (c .stopped-at .ensures)
 
 rules-shape-requires : tie.Need-rules-shape-requires
 rules-shape-requires c κs = search needs
@@ -60,6 +63,7 @@ answer-headers-spec =
     (tie.spec
     open-input-requires
     headers-start-requires
+    stopped-at-requires
     returns
     rules-shape-requires
     rules-length-requires

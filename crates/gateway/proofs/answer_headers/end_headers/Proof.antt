@@ -1,7 +1,6 @@
 -- `gateway::answer_headers::end_headers` meets its contract, arm by arm.
 -- Assumes nothing.
 use borrow.Author.Needs.{needs}
-use mathlib.Core.Path.{refl}
 use Rattle.gateway.proofs.answer_headers.end_headers.Statement.{statement}
 use Rattle.gateway.proofs.answer_headers.end_headers.Tie as tie
 
@@ -20,11 +19,14 @@ end-answers-requires-2 c κs = search needs
 enum-told-2 : tie.Need-enum-told-2
 enum-told-2 c = search needs
 
-end-answers-requires-3 : tie.Need-end-answers-requires-3
-end-answers-requires-3 c κs = search needs
+stopped-at-requires : tie.Need-stopped-at-requires
+stopped-at-requires c κs = search needs
 
 enum-told-3 : tie.Need-enum-told-3
 enum-told-3 c = search needs
+
+stopped-at-requires-2 : tie.Need-stopped-at-requires-2
+stopped-at-requires-2 c κs = search needs
 
 same-length : tie.Need-same-length
 same-length c = search needs
@@ -38,14 +40,11 @@ same-length-2 c = search needs
 returns-2 : tie.Need-returns-2
 returns-2 c = rw (c .before .before .before .before .before .enum-told .given .1) (c .before .before .end-answers2 .ensures)
 
-same-length-3 : tie.Need-same-length-3
-same-length-3 c = search needs
-
 returns-3 : tie.Need-returns-3
-returns-3 c = rw (c .before .before .before .before .before .enum-told2 .given .1) (c .before .before .end-answers3 .ensures)
+returns-3 c = rw (c .before .enum-told2 .given .1) (c .stopped-at .ensures)
 
 returns-4 : tie.Need-returns-4
-returns-4 c = rw (c .before .enum-told3 .given .1) refl
+returns-4 c = rw (c .before .enum-told3 .given .1) (c .stopped-at2 .ensures)
 
 pub end-headers-spec : {M : Type 1} → statement M
 end-headers-spec =
@@ -56,12 +55,12 @@ end-headers-spec =
     enum-told
     end-answers-requires-2
     enum-told-2
-    end-answers-requires-3
+    stopped-at-requires
     enum-told-3
+    stopped-at-requires-2
     same-length
     returns
     same-length-2
     returns-2
-    same-length-3
     returns-3
     returns-4)

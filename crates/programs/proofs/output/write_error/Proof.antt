@@ -1,10 +1,10 @@
--- `gateway::output::write_error` is safe and ends: the part that is written lies within the run.
+-- `programs::output::write_error` is safe and ends: the part that is written lies within the run.
 -- Assumes nothing.
 use borrow.Author.Needs.{needs}
 use mathlib.Core.Path.{sym}
 use lib.Seq.{length-take-le}
-use Rattle.gateway.proofs.output.write_error.Statement.{statement}
-use Rattle.gateway.proofs.output.write_error.Tie as tie
+use Rattle.programs.proofs.output.write_error.Statement.{statement}
+use Rattle.programs.proofs.output.write_error.Tie as tie
 
 returns : tie.Need-returns
 returns c = search needs

@@ -1,0 +1,2 @@
+-- Determined: every contract that is an equation allows one result alone.
+pub mod Determined

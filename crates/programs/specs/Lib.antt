@@ -1,0 +1,2 @@
+-- To be believed: what the contracts of public functions and the theorems say.
+pub mod Status
