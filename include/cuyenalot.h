@@ -1,14 +1,16 @@
 /* Cuyenalot for C and C++ on x86-64 Linux: the first match of a header in a list of rules, by a sorted-partition table.
  *
- * These are the functions of target/staticlib/libinterface.a, which `rt staticlib interface` proves and writes. Each is
- * proved to answer what its comment says, for every input; the contracts stand in crates/interface/src.
+ * These are the functions of libcuyenalot.a, which `scripts/archive` proves and writes to target/staticlib/, and
+ * `scripts/install` to where it is told. Each is proved to answer what its comment says, for every input; the contracts
+ * stand in crates/interface/src.
  *
  * Words
  *
  * A list is a run of 32-bit numbers, 2d a rule: low and high of field 0, then of field 1, and so on. d fields, 1 to 8; n
  * rules, 0 to 1,024. Rule numbers start at 0; a lower number has the higher priority. A header is eight 32-bit numbers,
  * of which the first d are read. A rule fits a header when low <= number <= high in all d fields; the first match is the
- * smallest rule number that fits. A table is a run of 16-bit numbers, exactly CUY_TABLE_LENGTH(n, d) long.
+ * smallest rule number that fits. A table is a run of 16-bit numbers, exactly CUY_TABLE_LENGTH(n, d) long. A list has at most
+ * CUY_MAX_LIST numbers, and a table CUY_MAX_TABLE.
  *
  * What comes back
  *
@@ -19,7 +21,7 @@
  *     answer[3], ..   what the operation answers, as said at the function; all 0 where it refuses
  *
  * A refusal leaves every other run as it was lent. A function that may give several refusals gives the first of those
- * that its comment lists.
+ * that its comment lists. cuy_refusal_name says a refusal number in words.
  *
  * What a caller owes
  *
@@ -27,8 +29,10 @@
  * as that length says, or the brackets of the parameter. A run that a call writes overlaps no other run of that call, and
  * nothing else writes to any of them while the call runs. Nothing more: the numbers may be any.
  *
- * The functions keep nothing between calls and allocate nothing. cuy_audit takes some 41 KB of stack, the others less than
- * 8 KB (measured, not proved). The archive wants memcpy and memset of the C library, and nothing else.
+ * The functions keep nothing between calls and allocate nothing, so several threads may call them at once, also on the same
+ * list and table, as long as none of these calls writes to what another reads: each thread has an answer of its own, and
+ * cuy_build runs by itself. cuy_audit takes some 41 KB of stack, the others less than 8 KB (measured, not proved). The
+ * archive wants memcpy and memset of the C library, and nothing else.
  */
 #ifndef CUYENALOT_H
 #define CUYENALOT_H
@@ -40,24 +44,62 @@
 extern "C" {
 #endif
 
-/* The refusals: number, when, and the place (0, 0 where none is named). */
+/* The version of this header; cuy_version() gives that of the archive. Raised whenever an answer's numbers or a function's
+ * parameters change: where the two differ, header and archive do not belong together. */
+#define CUY_VERSION 1
+
+/* The limits: fields of a rule, rules of a list, numbers of the longest list and of the longest table. */
+#define CUY_MAX_FIELDS 8
+#define CUY_MAX_RULES 1024
+#define CUY_MAX_LIST 16384
+#define CUY_MAX_TABLE 18436
+
+/* The refusals: name, number, and what is wrong. The place is 0, 0 but for 4, which is at the smallest such rule number, then
+ * its smallest such field; and for 12, which is at how many places are needed. No function here gives 8: it is the program's
+ * alone. */
+#define CUY_REFUSALS(X) \
+    X(CUY_BAD_FIELDS, 1, "d is not 1 to 8") \
+    X(CUY_BAD_LENGTH, 2, "the list's length is no multiple of 2d") \
+    X(CUY_TOO_MANY_RULES, 3, "more than 1,024 rules") \
+    X(CUY_LOW_ABOVE_HIGH, 4, "some low is above its high") \
+    X(CUY_BAD_TABLE_LENGTH, 5, "the table's length is not that of n rules of d fields") \
+    X(CUY_BROKEN_TABLE, 6, "broken table: numbers of it that the call reads do not hold together") \
+    X(CUY_NO_SUCH_PARTITION, 7, "the partition number is not below the number of partitions") \
+    X(CUY_BAD_LINE, 8, "a CSV line is not as it must be") \
+    X(CUY_BAD_WIDTH, 9, "the width is not 1 to 32") \
+    X(CUY_BAD_PREFIX, 10, "the prefix is longer than the width, its value needs more bits, or a bit below it is set") \
+    X(CUY_BAD_RANGE, 11, "low is above high, or high needs more bits than the width") \
+    X(CUY_TOO_LITTLE_ROOM, 12, "fewer places lent than prefixes to write")
+
 enum cuy_refusal {
-    CUY_BAD_FIELDS = 1,        /* d is not 1 to 8 */
-    CUY_BAD_LENGTH = 2,        /* the list's length is no multiple of 2d */
-    CUY_TOO_MANY_RULES = 3,    /* more than 1,024 rules */
-    CUY_LOW_ABOVE_HIGH = 4,    /* some low > high; at the smallest such rule number, then its smallest such field */
-    CUY_BAD_TABLE_LENGTH = 5,  /* the table's length is not exactly CUY_TABLE_LENGTH(n, d) */
-    CUY_BROKEN_TABLE = 6,      /* broken table: numbers of it that the call reads do not hold together */
-    CUY_NO_SUCH_PARTITION = 7, /* the partition number is b or more */
-    CUY_BAD_LINE = 8,          /* a CSV line is not as it must be: the program's alone, no function here gives it */
-    CUY_BAD_WIDTH = 9,         /* the width is not 1 to 32 */
-    CUY_BAD_PREFIX = 10,       /* prefix length > width, value needs more than width bits, or a bit below the prefix is set */
-    CUY_BAD_RANGE = 11,        /* the range has low > high, or high needs more than width bits */
-    CUY_TOO_LITTLE_ROOM = 12   /* fewer places lent than prefixes to write; at how many are needed */
+    CUY_NO_REFUSAL = 0
+#define CUY_AS_NUMBER(name, number, text) , name = number
+    CUY_REFUSALS(CUY_AS_NUMBER)
+#undef CUY_AS_NUMBER
 };
 
+/* Says a refusal number in words, as listed above; 0 is "nothing is refused", any other number "no refusal has this
+ * number". Never null; the text is not the caller's to free. */
+static inline const char *cuy_refusal_name(uint32_t number) {
+    switch (number) {
+    case CUY_NO_REFUSAL: return "nothing is refused";
+#define CUY_AS_CASE(name, number, text) case name: return text;
+    CUY_REFUSALS(CUY_AS_CASE)
+#undef CUY_AS_CASE
+    default: return "no refusal has this number";
+    }
+}
+
 /* How many numbers the table of n rules of d fields has. */
-#define CUY_TABLE_LENGTH(n, d) (4 + 2 * (size_t)(n) + 2 * (size_t)(n) * (size_t)(d))
+#ifdef __cplusplus
+#define CUY_SIZE(n) static_cast<size_t>(n)
+#else
+#define CUY_SIZE(n) ((size_t)(n))
+#endif
+#define CUY_TABLE_LENGTH(n, d) (4 + 2 * CUY_SIZE(n) + 2 * CUY_SIZE(n) * CUY_SIZE(d))
+
+/* Gives the version of the archive, to be held against CUY_VERSION. Refuses nothing. */
+uint32_t cuy_version(void);
 
 /* Checks a list. Answers n, the number of its rules, in answer[3].
  * Refuses with 1, 2, 3, 4. */

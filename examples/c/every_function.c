@@ -101,7 +101,22 @@ static void show_run(const uint32_t *run, size_t length) {
     printf("\n");
 }
 
+/* The longest list, its table, and the numbers that say how long they are. */
+static void limits(void) {
+    static uint32_t list[CUY_MAX_LIST + 2 * CUY_MAX_FIELDS];
+    static uint16_t table[CUY_MAX_TABLE];
+    printf("limits: %d %d %d %d\n", CUY_MAX_FIELDS, CUY_MAX_RULES, CUY_MAX_LIST, CUY_MAX_TABLE);
+    if (CUY_TABLE_LENGTH(CUY_MAX_RULES, CUY_MAX_FIELDS) != CUY_MAX_TABLE) printf("the longest table is longer\n");
+    check("check the longest list", CUY_MAX_FIELDS, list, CUY_MAX_LIST);
+    check("check one rule more", CUY_MAX_FIELDS, list, CUY_MAX_LIST + 2 * CUY_MAX_FIELDS);
+    build("build the longest list", CUY_MAX_FIELDS, list, CUY_MAX_LIST, table, CUY_MAX_TABLE);
+}
+
 int main(void) {
+    printf("version %d, archive %" PRIu32 "\n", CUY_VERSION, cuy_version());
+    limits();
+    for (uint32_t number = 0; number <= 13; number++) printf("%" PRIu32 ": %s\n", number, cuy_refusal_name(number));
+
     check("check the bench list", FIELDS, bench, NUMBERS);
     check("check 9 fields", 9, bench, NUMBERS);
     check("check one number short", FIELDS, bench, NUMBERS - 1);

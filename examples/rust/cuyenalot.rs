@@ -2,10 +2,19 @@
 //!
 //! A caller owes those functions valid memory and nothing more, and Rust's references are that: every slice is as long as it
 //! says, and a `&mut` overlaps nothing. So no function here tests anything, and each is safe for every input.
-//! Link with `-L native=target/staticlib` after `rt staticlib interface`.
+//! Link with `-L native=target/staticlib` after `scripts/archive`, or with `-L native=PREFIX/lib` after `scripts/install PREFIX`.
 
 /// A header: eight numbers, of which the first d are read.
 pub type Header = [u32; 8];
+
+/// The version of the interface that this file is for; `version()` gives that of the archive.
+pub const VERSION: u32 = 1;
+
+/// The limits: fields of a rule, rules of a list, numbers of the longest list and of the longest table.
+pub const MAX_FIELDS: usize = 8;
+pub const MAX_RULES: usize = 1024;
+pub const MAX_LIST: usize = 2 * MAX_FIELDS * MAX_RULES;
+pub const MAX_TABLE: usize = table_length(MAX_RULES, MAX_FIELDS);
 
 /// A refusal: its number, from the table of the C header, and its place of two numbers.
 #[derive(Clone, Copy, Debug, PartialEq, Eq)]
@@ -14,6 +23,36 @@ pub struct Refusal {
     pub at: usize,
     pub then: usize,
 }
+
+impl Refusal {
+    /// What is wrong, in the words of the C header.
+    pub fn name(&self) -> &'static str {
+        match self.number {
+            1 => "d is not 1 to 8",
+            2 => "the list's length is no multiple of 2d",
+            3 => "more than 1,024 rules",
+            4 => "some low is above its high",
+            5 => "the table's length is not that of n rules of d fields",
+            6 => "broken table: numbers of it that the call reads do not hold together",
+            7 => "the partition number is not below the number of partitions",
+            8 => "a CSV line is not as it must be",
+            9 => "the width is not 1 to 32",
+            10 => "the prefix is longer than the width, its value needs more bits, or a bit below it is set",
+            11 => "low is above high, or high needs more bits than the width",
+            12 => "fewer places lent than prefixes to write",
+            0 => "nothing is refused",
+            _ => "no refusal has this number",
+        }
+    }
+}
+
+impl std::fmt::Display for Refusal {
+    fn fmt(&self, f: &mut std::fmt::Formatter) -> std::fmt::Result {
+        write!(f, "refused {} at {} then {}: {}", self.number, self.at, self.then, self.name())
+    }
+}
+
+impl std::error::Error for Refusal {}
 
 /// What a lookup finds: the rule, or none, and the number of range tests.
 #[derive(Clone, Copy, Debug, PartialEq, Eq)]
@@ -30,8 +69,9 @@ pub struct Part {
 }
 
 mod c {
-    #[link(name = "interface", kind = "static")]
+    #[link(name = "cuyenalot", kind = "static")]
     extern "C" {
+        pub fn cuy_version() -> u32;
         pub fn cuy_check(d: usize, list: *const u32, list_length: usize, answer: &mut [u64; 4]) -> u32;
         pub fn cuy_plain_scan(
             d: usize,
@@ -87,9 +127,15 @@ mod c {
     }
 }
 
-/// How many numbers the table of n rules of d fields has.
+/// How many numbers the table of n rules of d fields has: at most `MAX_TABLE` for n up to `MAX_RULES` and d up to
+/// `MAX_FIELDS`. Past these limits there is no such table, and the same sum is given, held at `usize::MAX` where it is larger.
 pub const fn table_length(n: usize, d: usize) -> usize {
-    4 + 2 * n + 2 * n * d
+    n.saturating_mul(2).saturating_add(n.saturating_mul(2).saturating_mul(d)).saturating_add(4)
+}
+
+/// The version of the archive, to be held against `VERSION`.
+pub fn version() -> u32 {
+    unsafe { c::cuy_version() }
 }
 
 /// Checks a list: its number of rules.

@@ -49,7 +49,24 @@ fn looked(looked: Looked) -> [usize; 3] {
     [found, rule, looked.tests]
 }
 
+/// The longest list, its table, and the numbers that say how long they are.
+fn limits() {
+    let list = vec![0; MAX_LIST + 2 * MAX_FIELDS];
+    let mut table = vec![0; MAX_TABLE];
+    println!("limits: {} {} {} {}", MAX_FIELDS, MAX_RULES, MAX_LIST, MAX_TABLE);
+    say("check the longest list", check(MAX_FIELDS, &list[..MAX_LIST]).map(|n| [n]));
+    say("check one rule more", check(MAX_FIELDS, &list).map(|n| [n]));
+    say("build the longest list", build(MAX_FIELDS, &list[..MAX_LIST], &mut table).map(|b| [b]));
+    assert_eq!(table_length(usize::MAX, 8), usize::MAX);
+}
+
 fn main() {
+    println!("version {}, archive {}", VERSION, version());
+    limits();
+    for number in 0..=13 {
+        println!("{}: {}", number, Refusal { number, at: 0, then: 0 }.name());
+    }
+
     say("check the bench list", check(FIELDS, &BENCH).map(|n| [n]));
     say("check 9 fields", check(9, &BENCH).map(|n| [n]));
     say("check one number short", check(FIELDS, &BENCH[..NUMBERS - 1]).map(|n| [n]));

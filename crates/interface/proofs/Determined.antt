@@ -27,6 +27,8 @@ use Rattle.interface.proofs.prefix.cuy_prefix_to_range.Kinds as prefix-
 use Rattle.interface.proofs.prefix.cuy_prefix_to_range.Reads as prefix-to-range
 use Rattle.interface.proofs.prefix.cuy_range_to_prefixes.Kinds as range-to-prefixes-kinds
 use Rattle.interface.proofs.prefix.cuy_range_to_prefixes.Reads as range-to-prefixes
+use Rattle.interface.proofs.version.cuy_version.Kinds as version-kinds
+use Rattle.interface.proofs.version.cuy_version.Reads as version
 
 module _ {k : ℕ} {s : Said} {r r′ : ℕ} {run run′ : List ℕ} (p : Told k s r run) (q : Told k s r′ run′) where
   returned-one : r ≡ r′
@@ -94,3 +96,6 @@ range-to-prefixes-answer-one κs a x y e g p q = written-one (p .0) (q .0)
 
 pub range-to-prefixes-run-one : OneRun 2 range-to-prefixes-kinds.ps range-to-prefixes-kinds.r range-to-prefixes.Learnt (λ κs e. now (e .1 .1 .1 .0))
 range-to-prefixes-run-one κs a x y e g p q = p .1 ∙ sym (q .1)
+
+pub version-one : OneAnswer 0 version-kinds.ps version-kinds.r version.Learnt
+version-one κs a x y e g p q = p ∙ sym q

@@ -15,3 +15,4 @@ mod answer;
 pub mod list;
 pub mod prefix;
 pub mod table;
+pub mod version;
