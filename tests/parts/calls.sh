@@ -117,14 +117,19 @@ compare_kind() { # KIND
     echo "calls: $1 done, ${drawn_lines[$1]} lines drawn ($((SECONDS - began)) s)"
 }
 
-# What is stored with the crate `calls` is what the second program answers.
+# What is stored with the crate `calls` is what the second program stores and answers; `rt` holds the proved one to it.
 compare_stored() {
     local crate=$root/crates/calls
-    [ -f "$crate/stdin" ] || return 0
+    if "$second" stored >"$scratch/lines" && cmp -s "$scratch/lines" "$crate/stdin"; then
+        pass 1
+    else
+        echo 'calls: the stored stdin is not what the second program stores: see tests/write-stored'
+        fail 1
+    fi
     if "$second" calls <"$crate/stdin" >"$scratch/want" && cmp -s "$scratch/want" "$crate/stdout"; then
         pass 1
     else
-        echo "calls: the stored stdout is not what the second program answers: see tests/store"
+        echo 'calls: the stored stdout is not what the second program answers: see tests/write-stored'
         fail 1
     fi
 }

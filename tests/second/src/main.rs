@@ -23,6 +23,7 @@ use std::io::{self, BufWriter, Read, Write};
 const USAGE: &str = "usage: second calls                   answers lines of the calls protocol
        second gateway RULES HEADERS   prints what the program prints for two files
        second edges KIND              writes the fixed lines of a kind: prefixes, lists, sorting, lookup, protocol
+       second stored                  writes the lines that are stored with the crate calls
        second cases SEED COUNT KIND   writes drawn lines of such a kind, or of random or large
        second files DIR               writes the fixed file pairs for the program, a folder each
        second files DIR SEED COUNT    writes drawn file pairs";
@@ -65,6 +66,7 @@ fn main() -> io::Result<()> {
         ["calls"] => calls(),
         ["gateway", rules, headers] => gateway(rules, headers),
         ["edges", kind] => write_lines(cases::edges(kind).unwrap_or_else(|| usage()).lines.iter()),
+        ["stored"] => write_lines(cases::stored().lines.iter()),
         ["cases", seed, count, kind] => {
             let drawn = cases::drawn(kind, number(seed), number(count));
             write_lines(drawn.unwrap_or_else(|| usage()).lines.iter())

@@ -6,7 +6,7 @@ use super::shapes::{all_headers, all_lists, header_of, nested, reversed, stairs,
 use crate::seed::Seed;
 
 /// The three calls on one list; the scan for a header of sevens.
-fn three(out: &mut Lines, d: u32, list: &[u32]) {
+pub fn three(out: &mut Lines, d: u32, list: &[u32]) {
     out.check(d, list);
     out.scan(d, list, &[7; 8]);
     out.independent(d, list);

@@ -10,10 +10,10 @@ use crate::lists::Header;
 use crate::seed::Seed;
 
 /// The headers of B2 to B8.
-const MARKED: [[u32; 2]; 7] = [[7, 250], [7, 100], [7, 150], [8, 5], [9, 5], [10, 0], [7, 1000]];
+pub const MARKED: [[u32; 2]; 7] = [[7, 250], [7, 100], [7, 150], [8, 5], [9, 5], [10, 0], [7, 1000]];
 
 /// Looks a header up in the table that the build writes.
-fn look(out: &mut Lines, d: u32, list: &[u32], header: &Header) {
+pub fn look(out: &mut Lines, d: u32, list: &[u32], header: &Header) {
     out.lookup(d, list, &built(d, list), header);
 }
 

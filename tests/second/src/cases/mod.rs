@@ -1,4 +1,5 @@
-//! The cases that the proved `calls` is held to, by kind: edges that are always the same, and drawn ones.
+//! The cases that the proved `calls` is held to, by kind: edges that are always the same, and drawn ones; and the few
+//! that are stored.
 
 pub mod characters;
 pub mod lines;
@@ -9,6 +10,7 @@ mod protocol;
 mod random;
 pub mod shapes;
 mod sorting;
+mod stored;
 pub mod tables;
 
 use crate::seed::Seed;
@@ -26,6 +28,13 @@ pub fn edges(kind: &str) -> Option<Lines> {
         _ => return None,
     }
     Some(out)
+}
+
+/// The lines that are stored with the crate `calls`.
+pub fn stored() -> Lines {
+    let mut out = Lines::default();
+    stored::lines(&mut out);
+    out
 }
 
 /// Exactly `count` drawn lines of a kind, or none where there is no such kind.

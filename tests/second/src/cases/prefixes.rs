@@ -14,12 +14,12 @@ fn top_of(width: u32) -> u32 {
 }
 
 /// A run of this length with numbers in it that tell whether they stayed.
-fn lent(length: usize) -> Vec<u32> {
+pub fn lent(length: usize) -> Vec<u32> {
     (0..length as u32).map(|i| (7 * i + 3) % 10).collect()
 }
 
 /// One range into runs that are empty, one pair short, one number short, exact, one and three numbers too long.
-fn into_runs(out: &mut Lines, low: u32, high: u32, width: u32) {
+pub fn into_runs(out: &mut Lines, low: u32, high: u32, width: u32) {
     let exact = 2 * pairs_of(low, high, width).len();
     let mut lengths = vec![0, exact - 2, exact - 1, exact, exact + 1, exact + 3];
     lengths.dedup();
@@ -29,7 +29,7 @@ fn into_runs(out: &mut Lines, low: u32, high: u32, width: u32) {
 }
 
 /// B10, B11, and B12 with the way back.
-fn marked(out: &mut Lines) {
+pub fn marked(out: &mut Lines) {
     out.r2p(16, 23, 5, &lent(2));
     out.r2p(1, 30, 5, &lent(16));
     out.r2p(0, TOP, 32, &lent(2));

@@ -4,7 +4,7 @@ use super::lines::{counted, Lines};
 use crate::seed::Seed;
 
 /// One good line for each word.
-const GOOD: [&str; 9] = [
+pub const GOOD: [&str; 9] = [
     "check 1 4 1 2 3 4",
     "scan 1 4 1 2 3 4 3 0 0 0 0 0 0 0",
     "build 1 2 5 6 8 9 9 9 9 9 9 9 9",
@@ -37,7 +37,7 @@ const NO_NUMBER: [&str; 16] = [
 ];
 
 /// The line with word i replaced.
-fn replaced(line: &str, i: usize, word: &str) -> String {
+pub fn replaced(line: &str, i: usize, word: &str) -> String {
     let mut words: Vec<&str> = line.split(' ').collect();
     words[i] = word;
     words.join(" ")

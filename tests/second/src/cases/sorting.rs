@@ -10,7 +10,7 @@ use super::tables::{damage, looks_right};
 use crate::seed::Seed;
 
 /// Builds into a table of the right length that holds other numbers.
-fn build(out: &mut Lines, d: u32, list: &[u32]) {
+pub fn build(out: &mut Lines, d: u32, list: &[u32]) {
     out.build(d, list, &unwritten(list.len() / (2 * d as usize), d));
 }
 

@@ -8,7 +8,7 @@ use crate::cases::{drawn, edges};
 const KINDS: [&str; 5] = ["prefixes", "lists", "sorting", "lookup", "protocol"];
 
 /// 01, Refusal numbers: the checks of each call.
-const REFUSALS: [(&str, &[u32]); 9] = [
+pub const REFUSALS: [(&str, &[u32]); 9] = [
     ("check", &[1, 2, 3, 4]),
     ("scan", &[1, 2, 3, 4]),
     ("independent", &[1, 2, 3, 4]),
@@ -26,7 +26,7 @@ fn word(text: &str, i: usize) -> String {
 }
 
 /// The calls and the refusal numbers among these lines.
-fn refusals_of(lines: &[Vec<u8>]) -> BTreeSet<(String, u32)> {
+pub fn refusals_of(lines: &[Vec<u8>]) -> BTreeSet<(String, u32)> {
     let mut refusals = BTreeSet::new();
     for line in lines {
         let said = answer(line);
@@ -38,7 +38,7 @@ fn refusals_of(lines: &[Vec<u8>]) -> BTreeSet<(String, u32)> {
 }
 
 /// Every call with each of its refusals.
-fn all_refusals() -> BTreeSet<(String, u32)> {
+pub fn all_refusals() -> BTreeSet<(String, u32)> {
     REFUSALS.iter().flat_map(|(call, numbers)| numbers.iter().map(move |n| (String::from(*call), *n))).collect()
 }
 
@@ -74,7 +74,7 @@ fn only_the_protocol_has_faulty_lines() {
 }
 
 #[test]
-fn a_stored_file_of_edges_has_at_most_a_million_bytes() {
+fn edges_of_a_kind_have_at_most_a_million_bytes() {
     for kind in KINDS {
         let bytes: usize = edges(kind).unwrap().lines.iter().map(|line| line.len() + 1).sum();
         assert!(bytes <= 1_000_000, "{}: {} bytes", kind, bytes);

@@ -4,3 +4,4 @@ mod coverage;
 mod marks;
 mod properties;
 mod readings;
+mod stored;

@@ -1,0 +1,284 @@
+//! The lines that are stored with the crate `calls`, so that `rt` alone holds the proved program to them: B1 to B12,
+//! each word in good cases, each refusal of each word in its order, faults of a line, and the edges that 01 names. They
+//! are few; the edges of all kinds are compared by tests/run.
+
+use super::lines::Lines;
+use super::lists::three;
+use super::lookup::{look, MARKED};
+use super::prefixes::{self, into_runs, lent};
+use super::protocol::{replaced, GOOD};
+use super::shapes::{built, header_of, nested, reversed, stairs, twins, BENCH, TOP};
+use super::sorting::build;
+
+/// B1 to B12; B9 with several headers, B12 with the way back.
+fn marked(out: &mut Lines) {
+    build(out, 2, &BENCH);
+    for numbers in MARKED {
+        look(out, 2, &BENCH, &header_of(&numbers, 0));
+    }
+    build(out, 1, &[]);
+    for number in [0, 7, TOP] {
+        look(out, 1, &[], &[number; 8]);
+    }
+    prefixes::marked(out);
+}
+
+/// Every call on one list: its table built, audited, looked up in, and reported on up to the first partition it lacks.
+fn every_call(out: &mut Lines, d: u32, list: &[u32], header: &[u32]) {
+    let (table, header) = (built(d, list), header_of(header, TOP));
+    out.check(d, list);
+    out.scan(d, list, &header);
+    out.independent(d, list);
+    build(out, d, list);
+    out.audit(d, list, &table);
+    out.lookup(d, list, &table, &header);
+    for p in 0..=table[2] as u32 {
+        out.report(d, list, &table, p);
+    }
+}
+
+/// No rule; twins; rules in one partition and in several; 0 and 4294967295 at either end, low equal to high.
+fn good(out: &mut Lines) {
+    every_call(out, 2, &BENCH, &[7, 150]);
+    every_call(out, 1, &[], &[0]);
+    every_call(out, 8, &stairs(2, 8), &[3; 8]);
+    every_call(out, 1, &twins(2, 1), &[7]);
+    every_call(out, 8, &twins(2, 8), &[7; 8]);
+    every_call(out, 2, &reversed(2, &stairs(3, 2)), &[5, 4]);
+    every_call(out, 1, &nested(3, 1), &[2]);
+    // ends that touch; a clash in field 0, which field 1 does not mend
+    every_call(out, 1, &[3, 5, 5, 9, 0, 3], &[5]);
+    every_call(out, 2, &[0, 5, 0, 0, 3, 9, 1, 1], &[4, 1]);
+    // a run of three places, whose middle one is tested first
+    every_call(out, 2, &[5, 5, 1, 1, 5, 5, 2, 2, 5, 5, 0, 0, 0, 0, 0, 0], &[0, 0]);
+    let ends = [TOP, TOP, 0, 0, 1, TOP - 1, 0, TOP];
+    every_call(out, 1, &ends, &[TOP]);
+    look(out, 1, &ends, &[0; 8]);
+    // partition 0 has candidate 2 and partition 1 candidate 1
+    every_call(out, 1, &[0, 5, 3, 9, 6, 9, 0, 9, 10, 10, 0, 2], &[9]);
+}
+
+/// The four calls that take a table, under a header of sevens and for partition 0.
+fn of_a_table(out: &mut Lines, d: u32, list: &[u32], table: &[u16]) {
+    out.build(d, list, table);
+    out.audit(d, list, table);
+    out.lookup(d, list, table, &[7; 8]);
+    out.report(d, list, table, 0);
+}
+
+/// The seven calls that take a list.
+fn of_a_list(out: &mut Lines, d: u32, list: &[u32], table: &[u16]) {
+    three(out, d, list);
+    of_a_table(out, d, list, table);
+}
+
+/// 1 to 5 of every call that has them, each where all that come after it would apply too.
+fn refusals(out: &mut Lines) {
+    for d in [0, 9] {
+        of_a_list(out, d, &[9, 7, 7], &[]);
+    }
+    of_a_list(out, 1, &[9, 7, 7], &[]);
+    of_a_list(out, 8, &[7; 15], &[]);
+    let mut long = twins(1025, 1);
+    long[0] = 9;
+    of_a_list(out, 1, &long, &[]);
+    // a lookup and a report never give 4: the first takes the table, the second refuses its length
+    let mut turned = twins(2, 2);
+    turned[6] = 8;
+    let table = built(2, &twins(2, 2));
+    of_a_list(out, 2, &turned, &table);
+    of_a_table(out, 2, &turned, &table[1..]);
+    for d in [1, 8] {
+        let list = stairs(1, d);
+        let table = built(d, &list);
+        of_a_table(out, d, &list, &table[1..]);
+        of_a_table(out, d, &list, &[&table[..], &[0]].concat());
+    }
+    of_a_table(out, 1, &[], &[0, 1, 0]);
+    of_a_table(out, 2, &BENCH, &[]);
+}
+
+/// 4's place: the smallest rule, then the smallest field of it.
+fn places_of_4(out: &mut Lines) {
+    for first in 0..9 {
+        let mut list = twins(3, 3);
+        list[2 * first] = 8;
+        list[16] = 9;
+        out.check(3, &list);
+    }
+    for (low, high) in [(1, 0), (TOP, TOP - 1), (TOP, 0)] {
+        out.check(1, &[low, high]);
+    }
+}
+
+/// 1,024 rules, in one partition and in 1,024; 2 before 3 for a length past 1,025 rules.
+fn many_rules(out: &mut Lines) {
+    let (one, each) = (stairs(1024, 1), twins(1024, 1));
+    out.check(1, &each);
+    out.check(1, &[7; 2051]);
+    out.scan(1, &each, &[8; 8]);
+    out.independent(1, &one);
+    build(out, 1, &each);
+    look(out, 1, &one, &[0; 8]);
+    out.report(1, &each, &built(1, &each), 1023);
+}
+
+/// The table with one number written over.
+fn with(table: &[u16], at: usize, number: u16) -> Vec<u16> {
+    let mut other = table.to_vec();
+    other[at] = number;
+    other
+}
+
+/// 6 for the opening: n, d, b, the first start, start b. It comes before 7; an audit says no.
+fn broken_openings(out: &mut Lines) {
+    let list = [1, 1, 7, 7];
+    let table = built(1, &list);
+    for (at, number) in [(0, 1), (1, 2), (2, 0), (2, 3), (5, 1), (6, 1), (6, 3)] {
+        let broken = with(&table, at, number);
+        out.audit(1, &list, &broken);
+        out.lookup(1, &list, &broken, &[7; 8]);
+        out.report(1, &list, &broken, 0);
+        out.report(1, &list, &broken, TOP);
+    }
+}
+
+/// 6 for a partition: its start, and the next one. A report comes to it after 7, and for its own partition alone.
+fn broken_partitions(out: &mut Lines) {
+    let list = twins(3, 1);
+    let table = built(1, &list);
+    for (at, number) in [(7, 0), (7, 3), (7, 4), (8, 1)] {
+        let broken = with(&table, at, number);
+        out.lookup(1, &list, &broken, &[7; 8]);
+        for p in 0..=3 {
+            out.report(1, &list, &broken, p);
+        }
+    }
+    for p in [4, 65536, 65537, TOP] {
+        out.report(1, &list, &table, p);
+    }
+}
+
+/// 6 at a step, where the walk comes to it: the rule number at mid, and both ends of its run. A report reads no run.
+fn broken_steps(out: &mut Lines) {
+    let list = [1, 1, 3, 3, 5, 5];
+    let table = built(1, &list);
+    // the order from 3, run-from from 10 and run-to from 13 on, by place
+    for (at, number) in [(4, 3), (4, 65535), (11, 2), (12, 1), (12, 3), (13, 0), (13, 2), (14, 1), (14, 4)] {
+        let broken = with(&table, at, number);
+        for number in [2, 3, 4] {
+            out.lookup(1, &list, &broken, &header_of(&[number], 0));
+        }
+        out.report(1, &list, &broken, 0);
+    }
+}
+
+/// 6 at field d: a group of two places, of which both rules fit; a rule that does not fit in the field before the last.
+fn broken_ends(out: &mut Lines) {
+    out.lookup(1, &[1, 3, 0, 4], &[2, 1, 1, 0, 1, 0, 2, 0, 0, 0, 2, 2], &header_of(&[2], 0));
+    let list = [1, 1, 7, 7, 2, 2, 7, 7, 3, 3, 7, 7];
+    let table = built(2, &list);
+    // the run of place 1 in field 0 reaches over place 2, whose rule is then the one tested in field 1
+    for model in [1, 2, 3] {
+        out.lookup(2, &list, &with(&table, 18, 3), &header_of(&[model, 7], 0));
+    }
+}
+
+/// A rule 5 to 3 in the middle of a table that looks right: 4 is below it, since below is tried first, and 5 above.
+fn turned_ends(out: &mut Lines) {
+    let (list, table) = ([4, 4, 5, 3, 4, 5], built(1, &stairs(3, 1)));
+    for number in [3, 4, 5] {
+        out.lookup(1, &list, &table, &header_of(&[number], 0));
+    }
+    out.report(1, &list, &table, 0);
+}
+
+/// Prefixes: ends at 0 and at the top, runs that are short, odd or too long, widths 1 and 32, 9 to 12 in their order.
+fn widths(out: &mut Lines) {
+    for (low, high, width) in [(0, 0, 1), (1, 30, 5), (0, TOP, 32), (TOP, TOP, 32)] {
+        into_runs(out, low, high, width);
+    }
+    out.r2p(1, TOP - 1, 32, &lent(123));
+    out.r2p(1, TOP - 1, 32, &lent(124));
+    for width in [0, 33, TOP] {
+        out.p2r(1, TOP, width);
+        out.r2p(5, 3, width, &[]);
+    }
+    for (low, high, width) in [(1, 0, 1), (5, 3, 5), (0, 32, 5), (32, 32, 5), (TOP, 0, 32)] {
+        out.r2p(low, high, width, &[]);
+        out.r2p(low, high, width, &lent(5));
+    }
+    for (value, length, width) in [(0, 6, 5), (0, TOP, 5), (32, 5, 5), (17, 4, 5), (16, 0, 5), (1, 31, 32)] {
+        out.p2r(value, length, width);
+    }
+    for (value, length, width) in [(0, 0, 1), (1, 1, 1), (16, 1, 5), (31, 5, 5), (TOP, 32, 32), (2147483648, 1, 32)] {
+        out.p2r(value, length, width);
+    }
+}
+
+/// Words that are none, also in capitals and with a byte more; bytes beside the digits; lengths that are not held, and
+/// a length and a table's number too large by one.
+const FAULTY: [&[u8]; 19] = [
+    b"",
+    b" ",
+    b"check",
+    b" check 1 0",
+    b"check 1 0 ",
+    b"chec 1 0",
+    b"checks 1 0",
+    b"Check 1 0",
+    b"check\0 1 0",
+    b"help",
+    b"\xff",
+    b"check 1 2 7 /",
+    b"check 1 2 7 :",
+    b"check 1 2 7 +7",
+    b"check 1 16501",
+    b"build 1 0 18501",
+    b"r2p 0 0 5 4294967295",
+    b"p2r 0 0 4294967296",
+    b"audit 1 0 4 0 1 0 65536",
+];
+
+/// Faults of a good line of each word: cut short, too long, a number that is none, blanks and CR where none belong.
+fn faults(out: &mut Lines) {
+    for line in GOOD {
+        let words: Vec<&str> = line.split(' ').collect();
+        let last = words.len() - 1;
+        out.raw(line.as_bytes());
+        out.raw(words[..last].join(" ").as_bytes());
+        out.raw(format!("{} 0", line).as_bytes());
+        out.raw(replaced(line, last, "00").as_bytes());
+        out.raw(replaced(line, 1, " 1").as_bytes());
+        out.raw(format!("{}\r", line).as_bytes());
+    }
+    for line in FAULTY {
+        out.raw(line);
+    }
+}
+
+/// Lengths and numbers at the most that is held, and past it.
+fn limits(out: &mut Lines) {
+    out.r2p(0, 0, 5, &lent(200));
+    out.r2p(0, 0, 5, &lent(201));
+    out.build(1, &[], &[]);
+    out.audit(1, &[], &[0, 1, 0, 65535]);
+    out.check(TOP, &[]);
+    out.p2r(TOP, TOP, TOP);
+}
+
+pub fn lines(out: &mut Lines) {
+    marked(out);
+    good(out);
+    refusals(out);
+    places_of_4(out);
+    many_rules(out);
+    broken_openings(out);
+    broken_partitions(out);
+    broken_steps(out);
+    broken_ends(out);
+    turned_ends(out);
+    widths(out);
+    limits(out);
+    faults(out);
+}
