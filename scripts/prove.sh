@@ -17,7 +17,7 @@ prove() { # CALLER NAME WORD..: the words are rt's; NAME is the crate that they 
         echo "$caller: proving $name where it is not proved; all of it takes some minutes .." >&2
     while IFS= read -r line; do
         case $line in
-        'rt: '*' proved (unchanged since it was last proved)' | 'rt: ok, '* | 'fn '*': proved' | 'logic '* | 'library '* | 'crate '*) ;;
+        'rt: '*' proved (unchanged since it was last proved)' | 'rt: ok, '* | 'fn '*': proved' | 'struct '*': proved' | 'enum '*': proved' | 'logic '* | 'library '* | 'crate '*) ;;
         'rt: '*' proved ('* | 'rt: '*' ran'*) echo "$line" >&2 ;;
         *) said+=("$line") ;;
         esac
