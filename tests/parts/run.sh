@@ -102,12 +102,12 @@ status_is_heard() {
     fi
     if command -v setpriv >/dev/null; then
         mkfifo "$scratch/alive"
-        "$status" sh -c 'exec sleep 60 9>&-' >"$scratch/alive" &
+        "$status" sh -c 'echo up; exec sleep 60 9>&-' >"$scratch/alive" &
         exec 7<"$scratch/alive"
-        sleep 0.3
+        IFS= read -r -t 20 heard <&7
         kill -KILL $!
         wait $! 2>/dev/null
-        timeout 10 cat <&7 >/dev/null
+        timeout 20 cat <&7 >/dev/null && [ "$heard" = up ]
         judge $? 'the program ends where with-status is killed'
         exec 7<&-
     fi
