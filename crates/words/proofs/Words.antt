@@ -15,23 +15,25 @@ use lib.ListN.{length, getD, take, drop, length-append, length-take, length-drop
 use borrow.Rule.Slice.PartMut.{putMid}
 use Rattle.ranges.specs.declared.refusal.Count.{Count}
 use Rattle.ranges.specs.Prefixes.{boundsOf}
-use Rattle.ranges.specs.Blocks.{prefixesOf, rangeFault, roomFault, expandOf, runAfter}
-use Rattle.lists.specs.Rules.{Rules}
-use Rattle.sorting.specs.Build.{Built}
-use Rattle.text.specs.Texts.{bytes}
+use Rattle.ranges.specs.Blocks.{prefixesOf, rangeFault, roomFault, runAfter}
+use Rattle.text.specs.Puts.{Put}
 use Rattle.words.specs.Limits.{runMost, answerMost}
-use Rattle.words.specs.Few.{PutFew}
+use Rattle.words.specs.Few.{PutFew, PutAll}
+use Rattle.words.specs.Parts.{fromTo}
 use Rattle.words.specs.Said.{allSpaced, countSaid, boundsSaid}
-use Rattle.words.specs.Words.{badSaid, buildSaid, p2rSaid, expandedSaid, r2pStands, r2pSaid, r2pLeft}
+use Rattle.words.specs.Words.{badSaid, p2rSaid, expandedSaid, r2pStands, r2pSaid, r2pLeft}
 use Rattle.words.proofs.Lent.{rest-lent, rest-long, rest-back}
 use Rattle.words.proofs.Longest.{table-most}
-use Rattle.words.proofs.Few.{few-more}
+use Rattle.words.proofs.Few.{few-text, few-then, few-more}
 
--- ---- build, lookup, audit, report
--- the answer and the table as the library left them
-pub built-is : (R : Rules) (T : List ℕ) {count : Count} {after out : List ℕ} {at : ℕ} {last : List ℕ} {end most : ℕ} → Built R T after count
-    → PutFew most out at (countSaid count ++ bytes " table" ++ allSpaced after) last end → PutFew most out at (buildSaid R T) last end
-built-is R T built put = rw (built .answers, built .leaves) at put
+-- ---- build and r2p
+-- the count, a word and the numbers, as the library left them
+pub counted-put : (word : List ℕ) {count is : Count} {ns left : List ℕ} {n : ℕ} → count ≡ is → ns ≡ left → length ns ≡ n
+    → {out : List ℕ} {at : ℕ} {mid : List ℕ} {a : ℕ} → PutFew 70 out at (countSaid count) mid a
+    → {mid' : List ℕ} {b : ℕ} → Put mid a word mid' b → {after : List ℕ} {end : ℕ} → PutAll ns mid' b after end
+    → PutFew (70 + length word + 21 * n) out at (countSaid is ++ word ++ allSpaced left) after end
+counted-put word answers leaves long count text numbers =
+    rw (← answers, ← leaves, ← long) (few-then (few-then count (few-text (length word) (omega arith) text)) numbers)
 
 -- ---- p2r
 module _ (ns : List ℕ) where
@@ -44,12 +46,6 @@ module _ (ns : List ℕ) where
   p2r-call e = rw (eq-eqb (length ns) 3 e)
 
 -- ---- r2p
--- the answer and the run as the library left them
-pub expanded-is : (width low high : ℕ) (run : List ℕ) {count : Count} {after out : List ℕ} {at : ℕ} {last : List ℕ} {end most : ℕ}
-    → count ≡ expandOf width low high run → after ≡ runAfter width low high run
-    → PutFew most out at (countSaid count ++ bytes " run" ++ allSpaced after) last end → PutFew most out at (expandedSaid width low high run) last end
-expanded-is width low high run is is' put = rw (is, is') at put
-
 -- the run keeps its length
 room-told : (m : ℕ) (run : List ℕ) → stands (roomFault m run) ≡ true → m * 2 ≤ length run
 room-told m run = go (ltb (length run / 2) m) refl
@@ -102,18 +98,18 @@ module _ (ns : List ℕ) where
 
 -- what is answered and left, way by way
 module _ (ns : List ℕ) where
-  pub r2p-bad : r2pStands ns ≡ false → {most : ℕ} {out : List ℕ} {at : ℕ} {after : List ℕ} {end : ℕ} → PutFew most out at badSaid after end
-      → PutFew most out at (r2pSaid ns) after end × (ns ≡ r2pLeft ns)
-  r2p-bad e put = (rw e put, rw e refl)
+  pub r2p-bad : r2pStands ns ≡ false → {out : List ℕ} {at : ℕ} {after : List ℕ} {end : ℕ} → PutFew 70 out at badSaid after end
+      → PutFew (answerMost - 1) out at (r2pSaid ns) after end × (ns ≡ r2pLeft ns)
+  r2p-bad e put = (rw e (few-more (omega arith) put), rw e refl)
 
   pub r2p-made : 4 ≤ length ns → getD ns 3 0 ≤ runMost → length ns ≡ 4 + getD ns 3 0 → {left out : List ℕ} {at : ℕ} {after : List ℕ} {end : ℕ}
-      → PutFew (74 + 21 * length (take (length ns - 4) (drop 4 ns))) out at (expandedSaid (getD ns 2 0) (getD ns 0 0) (getD ns 1 0) (take (length ns - 4) (drop 4 ns))) after end
-      → left ≡ runAfter (getD ns 2 0) (getD ns 0 0) (getD ns 1 0) (take (length ns - 4) (drop 4 ns))
+      → PutFew (74 + 21 * length (fromTo 4 (length ns) ns)) out at (expandedSaid (getD ns 2 0) (getD ns 0 0) (getD ns 1 0) (fromTo 4 (length ns) ns)) after end
+      → left ≡ runAfter (getD ns 2 0) (getD ns 0 0) (getD ns 1 0) (fromTo 4 (length ns) ns)
       → PutFew (answerMost - 1) out at (r2pSaid ns) after end × (putMid 4 (length ns - 4) ns left ≡ r2pLeft ns)
   r2p-made le few all {left} put is =
       let stands = r2p-call ns le few all in
-      let size : length (take (length ns - 4) (drop 4 ns)) ≤ runMost = omega (arith, rest-long ns 4) in
-      let short : 74 + 21 * length (take (length ns - 4) (drop 4 ns)) ≤ answerMost - 1 = omega (arith, table-most) in (
+      let size : length (fromTo 4 (length ns) ns) ≤ runMost = omega (arith, rest-long ns 4) in
+      let short : 74 + 21 * length (fromTo 4 (length ns) ns) ≤ answerMost - 1 = omega (arith, table-most) in (
         rw (stands, ← rest-lent ns 4) (few-more short put),
         rw stands (rest-back ns left 4 ∙ ap (λ run. take 4 ns ++ run) (is ∙ ap (runAfter (getD ns 2 0) (getD ns 0 0) (getD ns 1 0)) (rest-lent ns 4))),
       )

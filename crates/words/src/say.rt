@@ -11,13 +11,12 @@ use tables::report::Part;
 use text::put::put_byte;
 use text::put::put_number;
 use text::put::put_text;
-ghost use Prim.Native.Nat.{_+_, _*_};
+ghost use Prim.Native.Nat.{_+_};
 ghost use mathlib.Core.List.{_++_};
-ghost use mathlib.Core.Path.{_≡_};
 ghost use lib.ListN.{length};
 ghost use Rattle.text.specs.Texts.{bytes};
-ghost use Rattle.words.specs.Few.{PutFew};
-ghost use Rattle.words.specs.Said.{spaced, allSpaced, refusalSaid, countSaid, boundsSaid, matchSaid, pairSaid, foundSaid, verdictSaid, partSaid};
+ghost use Rattle.words.specs.Few.{PutFew, PutAll};
+ghost use Rattle.words.specs.Said.{spaced, refusalSaid, countSaid, boundsSaid, matchSaid, pairSaid, foundSaid, verdictSaid, partSaid};
 
 // Puts a blank and a number.
 pub fn put_spaced(n: u64, out: &mut [u8], at: usize) -> usize
@@ -29,42 +28,28 @@ pub fn put_spaced(n: u64, out: &mut [u8], at: usize) -> usize
 
 // Puts each number of a run after a blank.
 pub fn put_all(numbers: &[u32], out: &mut [u8], at: usize) -> usize
-    ensures { λ r. ⌜ PutFew (21 * length (now (numbers .entry))) (now (out .entry)) at (allSpaced (now (numbers .entry))) (now (out .exit)) r ⌝ }
+    ensures { λ r. ⌜ PutAll (now (numbers .entry)) (now (out .entry)) at (now (out .exit)) r ⌝ }
 {
     let mut place = at;
     let mut i = 0;
     while i < numbers.len() {
-        place = put_spaced(wide(numbers[i]), out, place);
+        place = put_spaced(numbers[i] as u64, out, place);
         i += 1;
     }
     place
-}
-
-// Gives a number as one of 64 bits.
-fn wide(n: u32) -> u64
-    ensures { λ r. ⌜ r ≡ n ⌝ }
-{
-    n as u64
 }
 
 // Puts each number of a table after a blank.
 pub fn put_table(numbers: &[u16], out: &mut [u8], at: usize) -> usize
-    ensures { λ r. ⌜ PutFew (21 * length (now (numbers .entry))) (now (out .entry)) at (allSpaced (now (numbers .entry))) (now (out .exit)) r ⌝ }
+    ensures { λ r. ⌜ PutAll (now (numbers .entry)) (now (out .entry)) at (now (out .exit)) r ⌝ }
 {
     let mut place = at;
     let mut i = 0;
     while i < numbers.len() {
-        place = put_spaced(wide16(numbers[i]), out, place);
+        place = put_spaced(numbers[i] as u64, out, place);
         i += 1;
     }
     place
-}
-
-// Gives a number of 16 bits as one of 64.
-fn wide16(n: u16) -> u64
-    ensures { λ r. ⌜ r ≡ n ⌝ }
-{
-    n as u64
 }
 
 // Puts the answer to a line that is no call.

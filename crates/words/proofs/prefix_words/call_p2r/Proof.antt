@@ -13,7 +13,9 @@ same-length c = search needs
 
 -- another count of numbers
 returns : tie.Need-returns
-returns c = rw (p2r-bad (c .before .before .before .before .before .before .before .args .given .now) (c .before .before .before .before .if1 .taken)) (c .before .before .put-bad .ensures)
+returns c =
+    let test = c .before .before .before .before in
+    rw (p2r-bad _ (test .if1 .taken)) (c .before .before .put-bad .ensures)
 
 shared-slice-read-prefix-to-range : tie.Need-shared-slice-read-prefix-to-range
 shared-slice-read-prefix-to-range c = search needs
@@ -36,8 +38,9 @@ same-length-2 c = search needs
 -- the call
 returns-2 : tie.Need-returns-2
 returns-2 c =
-    let ns = c .before .before .before .before .before .before .before .before .before .before .before .args .given .now in
-    rw (p2r-call ns (c .before .before .before .before .before .before .before .before .if1 .left), ← c .before .before .before .before .prefix-to-range .ensures) (c .before .before .put-bounds .ensures)
+    let made = c .before .before .before .before in
+    let test = made .before .before .before .before in
+    rw (p2r-call _ (test .if1 .left), ← made .prefix-to-range .ensures) (c .before .before .put-bounds .ensures)
 
 pub call-p2r-spec : {M : Type 1} → statement M
 call-p2r-spec =

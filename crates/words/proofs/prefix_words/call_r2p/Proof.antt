@@ -3,7 +3,6 @@
 use borrow.Author.Needs.{needs}
 use native.Mathlib.Omega.{arith}
 use Rattle.words.proofs.Words.{r2p-short, r2p-long, r2p-cut, r2p-bad, r2p-made}
-use Rattle.words.proofs.Few.{few-more}
 use Rattle.words.proofs.prefix_words.call_r2p.Statement.{statement}
 use Rattle.words.proofs.prefix_words.call_r2p.Tie as tie
 
@@ -16,8 +15,8 @@ same-length c = search needs
 -- too few numbers
 returns : tie.Need-returns
 returns c =
-    let ns = c .before .before .before .before .before .before .before .args .given .now in
-    r2p-bad ns (r2p-short ns (c .before .before .before .before .if1 .taken)) (few-more (omega arith) (c .before .before .put-bad .ensures))
+    let few = c .before .before .before .before in
+    r2p-bad _ (r2p-short _ (few .if1 .taken)) (c .before .before .put-bad .ensures)
 
 slice-read-k : tie.Need-slice-read-k
 slice-read-k c = search needs
@@ -34,8 +33,9 @@ same-length-2 c = search needs
 -- a run too long
 returns-2 : tie.Need-returns-2
 returns-2 c =
-    let ns = c .before .before .before .before .before .before .before .before .before .args .given .now in
-    r2p-bad ns (r2p-long ns (c .before .before .before .before .before .before .if1 .left) (c .before .before .before .before .if2 .taken)) (few-more (omega arith) (c .before .before .put-bad2 .ensures))
+    let long = c .before .before .before .before in
+    let few = long .before .before in
+    r2p-bad _ (r2p-long _ (few .if1 .left) (long .if2 .taken)) (c .before .before .put-bad2 .ensures)
 
 add-if3 : tie.Need-add-if3
 add-if3 c = search needs
@@ -49,8 +49,10 @@ same-length-3 c = search needs
 -- a run cut short, or more after it
 returns-3 : tie.Need-returns-3
 returns-3 c =
-    let ns = c .before .before .before .before .before .before .before .before .before .before .args .given .now in
-    r2p-bad ns (r2p-cut ns (c .before .before .before .before .before .before .before .if1 .left) (c .before .before .before .before .before .if2 .left) (c .before .before .before .before .if3 .taken)) (few-more (omega arith) (c .before .before .put-bad3 .ensures))
+    let cut = c .before .before .before .before in
+    let long = cut .before in
+    let few = long .before .before in
+    r2p-bad _ (r2p-cut _ (few .if1 .left) (long .if2 .left) (cut .if3 .taken)) (c .before .before .put-bad3 .ensures)
 
 slice-read-width : tie.Need-slice-read-width
 slice-read-width c = search needs
@@ -82,10 +84,11 @@ same-length-5 c = search needs
 -- the call
 returns-4 : tie.Need-returns-4
 returns-4 c =
-    let ns = c .before .before .before .before .before .before .before .before .before .before .before .before .before .before .before .before .args .given .now in
-    let made = c .before .before .before .before .put-expanded in
-    let cut = c .before .before .before .before .before .before .before .before .before .before in
-    r2p-made ns (cut .before .before .before .if1 .left) (cut .before .if2 .left) (cut .if3 .left) (made .ensures .0) (made .ensures .1)
+    let made = c .before .before .before .before in
+    let cut = made .before .before .before .before .before .before in
+    let long = cut .before in
+    let few = long .before .before in
+    r2p-made _ (few .if1 .left) (long .if2 .left) (cut .if3 .left) (made .put-expanded .ensures .0) (made .put-expanded .ensures .1)
 
 pub call-r2p-spec : {M : Type 1} → statement M
 call-r2p-spec =

@@ -1,9 +1,8 @@
 -- `words::prefix_words::put_expanded` meets its contract: the count, the word, and the run as the library left it.
 -- Assumes nothing.
 use borrow.Author.Needs.{needs}
-use native.Mathlib.Omega.{arith}
-use Rattle.words.proofs.Few.{few-text, few-then, few-more}
-use Rattle.words.proofs.Words.{expanded-is}
+use Rattle.text.specs.Texts.{bytes}
+use Rattle.words.proofs.Words.{counted-put}
 use Rattle.words.proofs.prefix_words.put_expanded.Statement.{statement}
 use Rattle.words.proofs.prefix_words.put_expanded.Tie as tie
 
@@ -30,10 +29,10 @@ same-length-2 c = search needs
 
 returns : tie.Need-returns
 returns c =
-    let made = c .before .before .before .before .before .before .before .before .before .before .before .before .before .before .before .before .range-to-prefixes in
-    let size = made .kept .1 .1 .1 .0 in
-    let a = c .before .before .before .before .before .before .before .before .before .before .before .before .before .before .before .before .before .before .before .before .args in (
-      few-more (omega arith) (expanded-is (a .width) (a .low) (a .high) (a .run .now) (made .ensures .0) (made .ensures .1) (few-then (few-then (c .before .before .before .before .before .before .before .before .before .before .before .before .put-count .ensures) (few-text 4 (omega arith) (c .before .before .before .before .before .before .before .put-text .ensures))) (c .before .before .put-all .ensures))),
+    let texted = c .before .before .before .before .before .before .before in
+    let counted = texted .before .before .before .before .before in
+    let made = counted .before .before .before .before .range-to-prefixes in (
+      counted-put (bytes " run") (made .ensures .0) (made .ensures .1) (made .kept .1 .1 .1 .0) (counted .put-count .ensures) (texted .put-text .ensures) (c .before .before .put-all .ensures),
       made .ensures .1,
     )
 

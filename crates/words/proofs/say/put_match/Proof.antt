@@ -42,7 +42,7 @@ same-length-2 c = search needs
 
 -- none
 returns-2 : tie.Need-returns-2
-returns-2 c = rw (c .before .before .before .before .before .enum-told .given .1) (few-more (omega arith) (few-text 7 (omega arith) (c .before .before .put-text .ensures)))
+returns-2 c = rw (c .before .before .before .before .before .enum-told .given .1) (few-text 70 (omega arith) (c .before .before .put-text .ensures))
 
 same-length-3 : tie.Need-same-length-3
 same-length-3 c = search needs

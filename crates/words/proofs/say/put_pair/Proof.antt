@@ -35,7 +35,7 @@ same-length c = search needs
 
 -- yes
 returns : tie.Need-returns
-returns c = rw (c .before .before .before .before .before .enum-told .given .1) (few-more (omega arith) (few-text 6 (omega arith) (c .before .before .put-text .ensures)))
+returns c = rw (c .before .before .before .before .before .enum-told .given .1) (few-text 70 (omega arith) (c .before .before .put-text .ensures))
 
 same-length-2 : tie.Need-same-length-2
 same-length-2 c = search needs

@@ -1,36 +1,31 @@
--- `words::say::put_table` meets its contract. At the loop's head the first i numbers are put, each after a blank; the
--- measure is what is left of them.
+-- `words::say::put_table` meets its contract. At the loop's head the first i numbers are put (`Said.antt`); the measure is what is
+-- left of them.
 -- Assumes nothing.
 use borrow.Author.Needs.{needs}
-use Prim.Native.Nat.{_≤_, _-_, _*_}
+use Prim.Native.Nat.{_-_}
 use native.Mathlib.Omega.{arith}
-use lib.ListN.{length, take}
-use lib.Seq.{take-all}
-use Rattle.words.specs.Said.{allSpaced}
-use Rattle.words.specs.Few.{PutFew}
-use Rattle.text.proofs.Puts.{put-no-byte, put-long}
-use Rattle.words.proofs.Few.{few-text, few-more}
-use Rattle.words.proofs.Said.{spaced-more}
+use lib.ListN.{length}
+use Rattle.words.proofs.Said.{PutFirst, first-none, first-more, first-all, first-long}
 use Rattle.words.proofs.say.put_table.Statement.{statement}
 use Rattle.words.proofs.say.put_table.Tie as tie
 
 abbrev Inv-loop : tie.InvT-loop
-Inv-loop numbers out₀ at place₀ i₀ out place i = (i ≤ length numbers) × PutFew (21 * i) out₀ at (allSpaced (take i numbers)) out place
+Inv-loop numbers out₀ at place₀ i₀ out place i = PutFirst numbers i out₀ at out place
 
 abbrev μ-loop : tie.MeasureT-loop
 μ-loop numbers out₀ at place₀ i₀ out place i = length numbers - i
 
 loop-holds : tie.Need-loop-holds Inv-loop μ-loop
-loop-holds c = (search needs, few-text (21 * 0) (omega arith) put-no-byte)
+loop-holds c = first-none
 
-mul-wide16 : tie.Need-mul-wide16 Inv-loop μ-loop
-mul-wide16 c = search needs
+mul-put-spaced : tie.Need-mul-put-spaced Inv-loop μ-loop
+mul-put-spaced c = search needs
 
-shared-slice-read-wide16 : tie.Need-shared-slice-read-wide16 Inv-loop μ-loop
-shared-slice-read-wide16 c = search needs
+shared-slice-read-put-spaced : tie.Need-shared-slice-read-put-spaced Inv-loop μ-loop
+shared-slice-read-put-spaced c = search needs
 
-wide16-requires : tie.Need-wide16-requires Inv-loop μ-loop
-wide16-requires c κs = search needs
+cast-put-spaced : tie.Need-cast-put-spaced Inv-loop μ-loop
+cast-put-spaced c = omega (arith, c .shared-slice-known2 .given (c .before .before .loop .i))
 
 put-spaced-requires : tie.Need-put-spaced-requires Inv-loop μ-loop
 put-spaced-requires c κs = search needs
@@ -43,17 +38,14 @@ loop-less c = search needs
 
 loop-again : tie.Need-loop-again Inv-loop μ-loop
 loop-again c =
-    let s = c .before .before .before .before .before .before .before .before .before .before .args .numbers .now in
-    (search needs, spaced-more s (c .before .before .before .before .before .before .before .loop .i) (omega arith) (c .before .before .before .before .before .before .before .loop .inv .1) (c .before .before .before .before .wide16 .ensures) (c .before .before .put-spaced .ensures))
+    let at-test = c .before .before .before .before .before in
+    first-more (at-test .before .loop .inv) (at-test .loop-test .taken) (c .before .before .put-spaced .ensures)
 
 same-length : tie.Need-same-length Inv-loop μ-loop
-same-length c = put-long (c .before .loop .inv .1 .puts)
+same-length c = first-long (c .before .loop .inv)
 
 returns : tie.Need-returns Inv-loop μ-loop
-returns c =
-    let s = c .before .before .before .before .args .numbers .now in
-    let all : length s ≤ c .before .loop .i = omega arith in
-    few-more (omega arith) (rw (take-all (c .before .loop .i) s all) at (c .before .loop .inv .1))
+returns c = first-all (c .before .loop .inv) (c .loop-test .left)
 
 pub put-table-spec : {M : Type 1} → statement M
 put-table-spec =
@@ -62,9 +54,9 @@ put-table-spec =
     Inv-loop
     μ-loop
     loop-holds
-    mul-wide16
-    shared-slice-read-wide16
-    wide16-requires
+    mul-put-spaced
+    shared-slice-read-put-spaced
+    cast-put-spaced
     put-spaced-requires
     add-i
     loop-less

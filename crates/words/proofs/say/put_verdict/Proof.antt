@@ -2,7 +2,7 @@
 -- Assumes nothing.
 use borrow.Author.Needs.{needs}
 use native.Mathlib.Omega.{arith}
-use Rattle.words.proofs.Few.{few-text, few-more}
+use Rattle.words.proofs.Few.{few-text}
 use Rattle.words.proofs.say.put_verdict.Statement.{statement}
 use Rattle.words.proofs.say.put_verdict.Tie as tie
 
@@ -35,14 +35,14 @@ same-length c = search needs
 
 -- yes
 returns : tie.Need-returns
-returns c = rw (c .before .before .before .before .before .enum-told .given .1) (few-more (omega arith) (few-text 6 (omega arith) (c .before .before .put-text .ensures)))
+returns c = rw (c .before .before .before .before .before .enum-told .given .1) (few-text 70 (omega arith) (c .before .before .put-text .ensures))
 
 same-length-2 : tie.Need-same-length-2
 same-length-2 c = search needs
 
 -- no
 returns-2 : tie.Need-returns-2
-returns-2 c = rw (c .before .before .before .before .before .enum-told2 .given .1) (few-more (omega arith) (few-text 5 (omega arith) (c .before .before .put-text2 .ensures)))
+returns-2 c = rw (c .before .before .before .before .before .enum-told2 .given .1) (few-text 70 (omega arith) (c .before .before .put-text2 .ensures))
 
 same-length-3 : tie.Need-same-length-3
 same-length-3 c = search needs

@@ -1,9 +1,8 @@
 -- `words::table_words::put_build` meets its contract: the count, the word, and the table as the library left it.
 -- Assumes nothing.
 use borrow.Author.Needs.{needs}
-use native.Mathlib.Omega.{arith}
-use Rattle.words.proofs.Few.{few-text, few-then, few-more}
-use Rattle.words.proofs.Words.{built-is}
+use Rattle.text.specs.Texts.{bytes}
+use Rattle.words.proofs.Words.{counted-put}
 use Rattle.words.proofs.table_words.put_build.Statement.{statement}
 use Rattle.words.proofs.table_words.put_build.Tie as tie
 
@@ -30,9 +29,10 @@ same-length-2 c = search needs
 
 returns : tie.Need-returns
 returns c =
-    let built = c .before .before .before .before .before .before .before .before .before .before .before .before .before .before .before .before in
-    let size = built .build .kept .1 .1 .0 in
-    few-more (omega arith) (built-is _ _ (built .build .ensures) (few-then (few-then (c .before .before .before .before .before .before .before .before .before .before .before .before .put-count .ensures) (few-text 6 (omega arith) (c .before .before .before .before .before .before .before .put-text .ensures))) (c .before .before .put-table .ensures)))
+    let texted = c .before .before .before .before .before .before .before in
+    let counted = texted .before .before .before .before .before in
+    let built = counted .before .before .before .before .build in
+    counted-put (bytes " table") (built .ensures .answers) (built .ensures .leaves) (built .kept .1 .1 .0) (counted .put-count .ensures) (texted .put-text .ensures) (c .before .before .put-table .ensures)
 
 pub put-build-spec : {M : Type 1} → statement M
 put-build-spec =
