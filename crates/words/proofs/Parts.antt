@@ -89,6 +89,7 @@ module _ (ns : List ℕ) (more : ℕ) (end : End) where
 -- ---- D LIST
 -- what the end of a list tells: it stands in the numbers from place 2 on, is not too long, and exactly so many numbers more follow
 pub record ListTo (ns : List ℕ) (more e : ℕ) : Type 0 where
+  pub is : listEnd ns more ≡ At e
   pub begun : 2 ≤ e
   pub few : e ≤ 2 + listMost
   pub follow : length ns ≡ e + more
@@ -98,7 +99,7 @@ unfolding listEnd
 list-told ns more told =
     let whole = exact-told ns more (runEnd listMost ns 1) told in
     let run = run-told listMost ns 1 (whole .0) in
-    record { begun = run .begun; few = run .few; follow = whole .1 }
+    record { is = told; begun = run .begun; few = run .few; follow = whole .1 }
 
 -- more numbers than a list and what follows it may have
 pub list-over : (ns : List ℕ) (more : ℕ) → 2 + listMost + more < length ns → listEnd ns more ≡ Missing
@@ -145,29 +146,32 @@ module _ (ns : List ℕ) (more : ℕ) {first : End} (listed : first ≡ runEnd l
 -- what the ends of a list and a table tell: the list stands from place 2 on and is not too long, the table stands after its length,
 -- and its numbers are of 16 bits
 pub record TableTo (ns : List ℕ) (more e t : ℕ) : Type 0 where
+  pub is : tableEnds ns more ≡ Both e t
   pub begun : 2 ≤ e
   pub few : e ≤ 2 + listMost
   pub table : TableAt ns more e t
   pub narrow : allNarrow (fromTo (e + 1) t ns) ≡ true
 
+-- the ends, where the list ends at x and the table's end is s
+abbrev endsAt : List ℕ → ℕ → End → Ends
+endsAt ns x s = onEnd s (λ y. pick (allNarrow (fromTo (x + 1) y ns)) (Both x y) Neither) Neither
+
 pub tables-told : (ns : List ℕ) (more : ℕ) {e t : ℕ} → tableEnds ns more ≡ Both e t → TableTo ns more e t
 unfolding tableEnds
-tables-told ns more {e} {t} = go (runEnd listMost ns 1) refl
+tables-told ns more {e} {t} told = go (runEnd listMost ns 1) refl told
   where
     last : {x y : ℕ} → RunTo listMost ns 1 x → exactly ns more (runEnd tableMost ns x) ≡ At y → (b : Bool) → allNarrow (fromTo (x + 1) y ns) ≡ b → pick b (Both x y) Neither ≡ Both e t → TableTo ns more e t
     last {x} {y} list at true narrow is =
         let same : x ≡ e = cc in
         let same' : y ≡ t = cc in
-        rw (← same, ← same') (record { begun = list .begun; few = list .few; table = table-told ns more refl refl at; narrow = narrow })
+        rw (← same, ← same') (record { is = told ∙ sym is; begun = list .begun; few = list .few; table = table-told ns more refl refl at; narrow = narrow })
     last list at false narrow is = never (cc)
 
-    next : {x : ℕ} → RunTo listMost ns 1 x → (s : End) → exactly ns more (runEnd tableMost ns x) ≡ s → onEnd s (λ y. pick (allNarrow (fromTo (x + 1) y ns)) (Both x y) Neither) Neither ≡ Both e t → TableTo ns more e t
+    next : {x : ℕ} → RunTo listMost ns 1 x → (s : End) → exactly ns more (runEnd tableMost ns x) ≡ s → endsAt ns x s ≡ Both e t → TableTo ns more e t
     next {x} list (At y) at is = last list at (allNarrow (fromTo (x + 1) y ns)) refl is
     next list Missing at is = never (cc)
 
-    go : (s : End) → runEnd listMost ns 1 ≡ s
-        → onEnd s (λ x. onEnd (exactly ns more (runEnd tableMost ns x)) (λ y. pick (allNarrow (fromTo (x + 1) y ns)) (Both x y) Neither) Neither) Neither ≡ Both e t
-        → TableTo ns more e t
+    go : (s : End) → runEnd listMost ns 1 ≡ s → onEnd s (λ x. endsAt ns x (exactly ns more (runEnd tableMost ns x))) Neither ≡ Both e t → TableTo ns more e t
     go (At x) at is = next (run-told listMost ns 1 at) (exactly ns more (runEnd tableMost ns x)) refl is
     go Missing at is = never (cc)
 

@@ -3,7 +3,7 @@
 use borrow.Author.Needs.{needs}
 use mathlib.Core.Path.{sym, _∙_}
 use native.Mathlib.Omega.{arith}
-use Rattle.words.proofs.Parts.{list-told}
+use Rattle.words.proofs.Parts.{ListTo, list-told}
 use Rattle.words.proofs.list_words.call_scan.Statement.{statement}
 use Rattle.words.proofs.list_words.call_scan.Tie as tie
 
@@ -24,17 +24,19 @@ same-length c = search needs
 
 -- no such line
 returns : tie.Need-returns
-returns c = rw (sym (c .before .before .before .before .before .before .list-end .ensures) ∙ c .before .before .before .before .enum-told .given .1) (c .before .before .put-bad .ensures)
+returns c =
+    let missing = c .before .before .before .before in
+    rw (sym (missing .before .before .list-end .ensures) ∙ missing .enum-told .given .1) (c .before .before .put-bad .ensures)
+
+-- the list stands in the numbers
+told : (c : tie.After-end) → ListTo (c .before .before .before .before .before .args .given .now) 8 (c .end .given .0 .0)
+told c = list-told _ 8 (sym (c .before .before .list-end .ensures) ∙ c .end .given .1)
 
 add-last : tie.Need-add-last
-add-last c =
-    let l = list-told _ 8 (sym (c .before .before .before .list-end .ensures) ∙ c .before .end .given .1) in
-    omega arith
+add-last c = omega (arith, told (c .before))
 
 mul-header-of : tie.Need-mul-header-of
-mul-header-of c =
-    let l = list-told _ 8 (sym (c .before .before .before .list-end .ensures) ∙ c .before .end .given .1) in
-    omega arith
+mul-header-of c = omega (arith, told (c .before))
 
 sub-header-of : tie.Need-sub-header-of
 sub-header-of c = search needs
@@ -43,32 +45,22 @@ part-header-of-start : tie.Need-part-header-of-start
 part-header-of-start c = search needs
 
 part-header-of-end : tie.Need-part-header-of-end
-part-header-of-end c =
-    let l = list-told _ 8 (sym (c .before .before .before .list-end .ensures) ∙ c .before .end .given .1) in
-    omega arith
+part-header-of-end c = omega (arith, told (c .before))
 
 header-of-requires : tie.Need-header-of-requires
 header-of-requires c κs = search needs
 
 shape-in-requires : tie.Need-shape-in-requires
-shape-in-requires c κs =
-    let l = list-told _ 8 (sym (c .before .before .before .before .before .list-end .ensures) ∙ c .before .before .before .end .given .1) in
-    omega arith
+shape-in-requires c κs = omega (arith, told (c .before .before .before))
 
 sub-plain-scan : tie.Need-sub-plain-scan
-sub-plain-scan c =
-    let l = list-told _ 8 (sym (c .before .before .before .before .before .before .list-end .ensures) ∙ c .before .before .before .before .end .given .1) in
-    omega arith
+sub-plain-scan c = omega (arith, told (c .before .before .before .before))
 
 part-plain-scan-start : tie.Need-part-plain-scan-start
-part-plain-scan-start c =
-    let l = list-told _ 8 (sym (c .before .before .before .before .before .before .list-end .ensures) ∙ c .before .before .before .before .end .given .1) in
-    omega arith
+part-plain-scan-start c = omega (arith, told (c .before .before .before .before))
 
 part-plain-scan-end : tie.Need-part-plain-scan-end
-part-plain-scan-end c =
-    let l = list-told _ 8 (sym (c .before .before .before .before .before .before .list-end .ensures) ∙ c .before .before .before .before .end .given .1) in
-    omega arith
+part-plain-scan-end c = omega (arith, told (c .before .before .before .before))
 
 plain-scan-requires : tie.Need-plain-scan-requires
 plain-scan-requires c κs = search needs
@@ -81,7 +73,12 @@ same-length-2 c = search needs
 
 -- the call
 returns-2 : tie.Need-returns-2
-returns-2 c = rw (sym (c .before .before .before .before .before .before .before .before .before .before .before .before .list-end .ensures) ∙ c .before .before .before .before .before .before .before .before .before .before .end .given .1, ← c .before .before .before .before .before .before .before .header-of .ensures, ← c .before .before .before .before .before .before .shape-in .ensures, ← c .before .before .before .before .plain-scan .ensures) (c .before .before .put-match .ensures)
+returns-2 c =
+    let called = c .before .before .before .before in
+    let shaped = called .before .before in
+    let header = shaped .before in
+    let ends = header .before .before .before in
+    rw (told ends .is, ← header .header-of .ensures, ← shaped .shape-in .ensures, ← called .plain-scan .ensures) (c .before .before .put-match .ensures)
 
 pub call-scan-spec : {M : Type 1} → statement M
 call-scan-spec =

@@ -17,23 +17,17 @@ returns c = search needs
 
 -- never: an end past all numbers
 returns-2 : tie.Need-returns-2
-returns-2 c =
-    let a = c .before .before .before .before .args in
-    exact-not (a .given .now) (a .more) (a .end) (c .before .before .end .given .1) (λ e. omega arith)
+returns-2 c = exact-not _ _ _ (c .before .before .end .given .1) (λ e. omega arith)
 
 sub-if2 : tie.Need-sub-if2
 sub-if2 c = search needs
 
 -- another count
 returns-3 : tie.Need-returns-3
-returns-3 c =
-    let a = c .before .before .before .before .before .args in
-    exact-not (a .given .now) (a .more) (a .end) (c .before .before .before .end .given .1) (λ e. omega arith)
+returns-3 c = exact-not _ _ _ (c .before .before .before .end .given .1) (λ e. omega arith)
 
 returns-4 : tie.Need-returns-4
-returns-4 c =
-    let a = c .before .before .before .before .before .args in
-    exact-is (a .given .now) (a .more) (a .end) (c .before .before .before .end .given .1) (omega arith)
+returns-4 c = exact-is _ _ _ (c .before .before .before .end .given .1) (omega arith)
 
 pub exact-spec : {M : Type 1} → statement M
 exact-spec =

@@ -4,7 +4,7 @@ use borrow.Author.Needs.{needs}
 use mathlib.Core.Path.{sym, _∙_}
 use native.Mathlib.Omega.{arith}
 use Rattle.words.proofs.Longest.{table-most, table-run}
-use Rattle.words.proofs.Parts.{table-told, tables-none, tables-cut, tables-wide, tables-are}
+use Rattle.words.proofs.Parts.{TableAt, table-told, tables-none, tables-cut, tables-wide, tables-are}
 use Rattle.words.proofs.part.table_ends.Statement.{statement}
 use Rattle.words.proofs.part.table_ends.Tie as tie
 
@@ -40,30 +40,28 @@ returns-2 c =
     let list = ran .before .before .before in
     tables-cut _ _ (list .before .before .run-end .ensures) (list .first .given .1) (table-run _ _ table-most (ran .before .run-end2 .ensures)) (ran .exact .ensures) (c .enum-told2 .given .1)
 
+-- the function's entry, from where the table ends
+abbrev entry : tie.After-second → tie.Start
+entry c = c .before .before .before .before .before .before .before .before .before
+
+-- the table stands after its length
+told : (c : tie.After-second) → TableAt (entry c .args .given .now) (entry c .args .more) (c .before .before .before .before .before .first .given .0 .0) (c .second .given .0 .0)
+told c = table-told _ _ (table-run _ _ table-most (c .before .before .before .run-end2 .ensures)) (c .before .before .exact .ensures) (c .second .given .1)
+
 add-from : tie.Need-add-from
-add-from c =
-    let t = table-told _ _ (table-run _ _ table-most (c .before .before .before .before .run-end2 .ensures)) (c .before .before .before .exact .ensures) (c .before .second .given .1) in
-    omega (arith, table-most)
+add-from c = omega (arith, table-most, told (c .before))
 
 mul-all-narrow : tie.Need-mul-all-narrow
-mul-all-narrow c =
-    let t = table-told _ _ (table-run _ _ table-most (c .before .before .before .before .run-end2 .ensures)) (c .before .before .before .exact .ensures) (c .before .second .given .1) in
-    omega (arith, table-most)
+mul-all-narrow c = omega (arith, table-most, told (c .before))
 
 sub-all-narrow : tie.Need-sub-all-narrow
-sub-all-narrow c =
-    let t = table-told _ _ (table-run _ _ table-most (c .before .before .before .before .run-end2 .ensures)) (c .before .before .before .exact .ensures) (c .before .second .given .1) in
-    omega (arith, table-most)
+sub-all-narrow c = omega (arith, table-most, told (c .before))
 
 part-all-narrow-start : tie.Need-part-all-narrow-start
-part-all-narrow-start c =
-    let t = table-told _ _ (table-run _ _ table-most (c .before .before .before .before .run-end2 .ensures)) (c .before .before .before .exact .ensures) (c .before .second .given .1) in
-    omega (arith, table-most)
+part-all-narrow-start c = omega (arith, table-most, told (c .before))
 
 part-all-narrow-end : tie.Need-part-all-narrow-end
-part-all-narrow-end c =
-    let t = table-told _ _ (table-run _ _ table-most (c .before .before .before .before .run-end2 .ensures)) (c .before .before .before .exact .ensures) (c .before .second .given .1) in
-    omega (arith, table-most)
+part-all-narrow-end c = omega (arith, table-most, told (c .before))
 
 all-narrow-requires : tie.Need-all-narrow-requires
 all-narrow-requires c κs = search needs

@@ -3,7 +3,7 @@
 use borrow.Author.Needs.{needs}
 use mathlib.Core.Path.{sym, _∙_}
 use native.Mathlib.Omega.{arith}
-use Rattle.words.proofs.Parts.{tables-told, tables-asked}
+use Rattle.words.proofs.Parts.{TableTo, tables-told, tables-asked}
 use Rattle.words.proofs.Few.{few-more}
 use Rattle.words.proofs.table_words.call_table.Statement.{statement}
 use Rattle.words.proofs.table_words.call_table.Tie as tie
@@ -28,62 +28,47 @@ same-length c = search needs
 
 -- no such line
 returns : tie.Need-returns
-returns c = rw (← c .before .before .before .before .before .before .before .numbers-after .ensures, sym (c .before .before .before .before .before .before .table-ends .ensures) ∙ c .before .before .before .before .enum-told .given .1) (few-more (omega arith) (c .before .before .put-bad .ensures))
+returns c =
+    let missing = c .before .before .before .before in
+    let ends = missing .before .before in
+    rw (← ends .before .numbers-after .ensures, sym (ends .table-ends .ensures) ∙ missing .enum-told .given .1) (few-more (omega arith) (c .before .before .put-bad .ensures))
+
+-- the list and the table stand in the numbers
+told : (c : tie.After-ends) → TableTo (c .before .before .before .before .before .before .args .given .now) (c .before .before .before .numbers-after .result) (c .ends .given .0 .0) (c .ends .given .0 .1 .0)
+told c = tables-told _ _ (sym (c .before .before .table-ends .ensures) ∙ c .ends .given .1)
 
 add-from : tie.Need-add-from
-add-from c =
-    let t = tables-told _ _ (sym (c .before .before .before .table-ends .ensures) ∙ c .before .ends .given .1) in
-    omega arith
+add-from c = omega (arith, told (c .before))
 
 add-last : tie.Need-add-last
-add-last c =
-    let t = tables-told _ _ (sym (c .before .before .before .table-ends .ensures) ∙ c .before .ends .given .1) in
-    omega arith
+add-last c = omega (arith, told (c .before))
 
 shape-in-requires : tie.Need-shape-in-requires
-shape-in-requires c κs =
-    let t = tables-told _ _ (sym (c .before .before .before .table-ends .ensures) ∙ c .before .ends .given .1) in
-    omega arith
+shape-in-requires c κs = omega (arith, told (c .before))
 
 sub-put-tabled : tie.Need-sub-put-tabled
-sub-put-tabled c =
-    let t = tables-told _ _ (sym (c .before .before .before .before .table-ends .ensures) ∙ c .before .before .ends .given .1) in
-    omega arith
+sub-put-tabled c = omega (arith, told (c .before .before))
 
 part-put-tabled-start : tie.Need-part-put-tabled-start
-part-put-tabled-start c =
-    let t = tables-told _ _ (sym (c .before .before .before .before .table-ends .ensures) ∙ c .before .before .ends .given .1) in
-    omega arith
+part-put-tabled-start c = omega (arith, told (c .before .before))
 
 part-put-tabled-end : tie.Need-part-put-tabled-end
-part-put-tabled-end c =
-    let t = tables-told _ _ (sym (c .before .before .before .before .table-ends .ensures) ∙ c .before .before .ends .given .1) in
-    omega arith
+part-put-tabled-end c = omega (arith, told (c .before .before))
 
 mul-put-tabled : tie.Need-mul-put-tabled
-mul-put-tabled c =
-    let t = tables-told _ _ (sym (c .before .before .before .before .before .table-ends .ensures) ∙ c .before .before .before .ends .given .1) in
-    omega arith
+mul-put-tabled c = omega (arith, told (c .before .before .before))
 
 sub-put-tabled-2 : tie.Need-sub-put-tabled-2
-sub-put-tabled-2 c =
-    let t = tables-told _ _ (sym (c .before .before .before .before .before .table-ends .ensures) ∙ c .before .before .before .ends .given .1) in
-    omega arith
+sub-put-tabled-2 c = omega (arith, told (c .before .before .before))
 
 part-put-tabled-start-2 : tie.Need-part-put-tabled-start-2
-part-put-tabled-start-2 c =
-    let t = tables-told _ _ (sym (c .before .before .before .before .before .table-ends .ensures) ∙ c .before .before .before .ends .given .1) in
-    omega arith
+part-put-tabled-start-2 c = omega (arith, told (c .before .before .before))
 
 part-put-tabled-end-2 : tie.Need-part-put-tabled-end-2
-part-put-tabled-end-2 c =
-    let t = tables-told _ _ (sym (c .before .before .before .before .before .table-ends .ensures) ∙ c .before .before .before .ends .given .1) in
-    omega arith
+part-put-tabled-end-2 c = omega (arith, told (c .before .before .before))
 
 mul-put-tabled-2 : tie.Need-mul-put-tabled-2
-mul-put-tabled-2 c =
-    let t = tables-told _ _ (sym (c .before .before .before .before .before .before .table-ends .ensures) ∙ c .before .before .before .before .ends .given .1) in
-    omega arith
+mul-put-tabled-2 c = omega (arith, told (c .before .before .before .before))
 
 sub-put-tabled-3 : tie.Need-sub-put-tabled-3
 sub-put-tabled-3 c = search needs
@@ -92,23 +77,24 @@ part-put-tabled-start-3 : tie.Need-part-put-tabled-start-3
 part-put-tabled-start-3 c = search needs
 
 part-put-tabled-end-3 : tie.Need-part-put-tabled-end-3
-part-put-tabled-end-3 c =
-    let t = tables-told _ _ (sym (c .before .before .before .before .before .before .table-ends .ensures) ∙ c .before .before .before .before .ends .given .1) in
-    omega arith
+part-put-tabled-end-3 c = omega (arith, told (c .before .before .before .before))
 
 put-tabled-requires : tie.Need-put-tabled-requires
 put-tabled-requires c κs =
-    let ended = c .before .before .before .before .before .before .before .before in
-    tables-asked (tables-told _ _ (sym (ended .table-ends .ensures) ∙ c .before .before .before .before .before .before .ends .given .1)) (ended .before .numbers-after .ensures)
+    let ends = c .before .before .before .before .before .before in
+    tables-asked (told ends) (ends .before .before .before .numbers-after .ensures)
 
 same-length-2 : tie.Need-same-length-2
 same-length-2 c = search needs
 
+-- the call
 returns-2 : tie.Need-returns-2
 returns-2 c =
-    let ended = c .before .before .before .before .before .before .before .before .before .before .before in
-    let asked = tables-asked (tables-told _ _ (sym (ended .table-ends .ensures) ∙ c .before .before .before .before .before .before .before .before .before .ends .given .1)) (ended .before .numbers-after .ensures) in
-    rw (← ended .before .numbers-after .ensures, sym (ended .table-ends .ensures) ∙ c .before .before .before .before .before .before .before .before .before .ends .given .1, ← c .before .before .before .before .before .before .before .shape-in .ensures) (few-more (omega (arith, asked .few)) (c .before .before .put-tabled .ensures))
+    let shaped = c .before .before .before .before .before .before .before in
+    let ends = shaped .before .before in
+    let follow = ends .before .before .before .numbers-after .ensures in
+    let asked = tables-asked (told ends) follow in
+    rw (← follow, told ends .is, ← shaped .shape-in .ensures) (few-more (omega (arith, asked .few)) (c .before .before .put-tabled .ensures))
 
 pub call-table-spec : {M : Type 1} → statement M
 call-table-spec =
