@@ -5,7 +5,7 @@
 --     answer-long                               of which there are as many
 --     call-over                                 more numbers than any call takes
 -- Assumes nothing.
-use Prim.Native.Nat.{ℕ, _≤_, _<_}
+use Prim.Native.Nat.{ℕ, _-_, _≤_, _<_}
 use mathlib.Core.Bool.{Bool, true, false}
 use mathlib.Core.List.{List, _++_}
 use mathlib.Core.Path.{_≡_, refl, ap, _∙_}
@@ -16,11 +16,12 @@ use Rattle.ranges.specs.Numbers.{pick}
 use Rattle.text.specs.Rows.{good, rowNext, keptAt}
 use Rattle.text.specs.declared.row.Row.{Row}
 use Rattle.text.proofs.Rows.{kept-long}
-use Rattle.words.specs.Limits.{lineRoom}
+use Rattle.words.specs.Limits.{lineRoom, answerMost}
 use Rattle.words.specs.Few.{PutFew}
 use Rattle.words.specs.Words.{badSaid, following}
 use Rattle.words.specs.declared.table_words.TableWord.{TableWord}
 use Rattle.words.specs.declared.table_words.TableWord.the-variants.{Build, Lookup, Audit, Report}
+use Rattle.words.proofs.Few.{few-more}
 use Rattle.words.proofs.Parts.{list-over, tables-over}
 use Rattle.words.proofs.Words.{p2r-bad, r2p-over, left-long}
 use Rattle.calls.specs.declared.line.Line.{Line}
@@ -57,25 +58,35 @@ module _ (k : ℕ) (name : List ℕ) (row : Row) (run : List ℕ) where
   called stands few within = rw (stands, le-leb (row .cells) (length run) few, le-leb k (length name) within)
 
 -- ---- what is put and left, way by way
-module _ (line : Line) (name numbers : List ℕ) {most : ℕ} {out : List ℕ} {at : ℕ} {after : List ℕ} {end : ℕ} where
-  -- no blank: a name alone, or nothing
-  pub unnamed-put : line .named ≡ false → PutFew most out at badSaid after end
-      → PutFew most out at (answerSaid (heard line name numbers)) after end × (numbers ≡ answerLeft (heard line name numbers))
+-- the answer to the line s, without its LF, and what it leaves of the numbers
+abbrev pub Answered : Heard → List ℕ → ℕ → List ℕ → List ℕ → ℕ → Type 0
+Answered s out at left after end = PutFew (answerMost - 1) out at (answerSaid s) after end × (left ≡ answerLeft s)
+
+-- the name has ended, and the line's end has ended the last number: the row and the run of the numbers then
+pub record Ended (s : Heard) (row : Row) (run : List ℕ) : Type 0 where
+  pub named : s .line .named ≡ true
+  pub last : row ≡ rowNext (s .line .row)
+  pub kept : run ≡ keptAt (s .line .row) 0 (s .numbers)
+
+-- no blank: a name alone, or nothing
+pub unnamed-put : (s : Heard) {out : List ℕ} {at : ℕ} {after : List ℕ} {end : ℕ} → s .line .named ≡ false → PutFew 70 out at badSaid after end
+    → Answered s out at (s .numbers) after end
+unfolding answerSaid answerLeft
+unnamed-put s e put = (rw e (few-more (omega arith) put), rw e refl)
+
+module _ {s : Heard} {row : Row} {run : List ℕ} (so : Ended s row run) {out : List ℕ} {at : ℕ} {after : List ℕ} {end : ℕ} where
+  pub named-bad : isCall (s .line .length) (s .name) row run ≡ false → PutFew 70 out at badSaid after end → Answered s out at run after end
   unfolding answerSaid answerLeft
-  unnamed-put e put = (rw e put, rw e refl)
+  named-bad bad put = (rw (so .named, ← so .last, ← so .kept, bad) (few-more (omega arith) put), rw (so .named, ← so .last, ← so .kept, bad) refl)
 
-  -- with the last number ended
-  module _ {row : Row} {run : List ℕ} (is : row ≡ rowNext (line .row)) (kept : run ≡ keptAt (line .row) 0 numbers) (named : line .named ≡ true) where
-    pub named-bad : isCall (line .length) name row run ≡ false → PutFew most out at badSaid after end
-        → PutFew most out at (answerSaid (heard line name numbers)) after end × (run ≡ answerLeft (heard line name numbers))
-    unfolding answerSaid answerLeft
-    named-bad bad put = (rw (named, ← is, ← kept, bad) put, rw (named, ← is, ← kept, bad) refl)
-
-    pub named-call : {word : Word} {left : List ℕ} → isCall (line .length) name row run ≡ true → word ≡ wordOf (take (line .length) name)
-        → PutFew most out at (wordSaid word (take (row .cells) run)) after end → left ≡ wordLeft word (take (row .cells) run)
-        → PutFew most out at (answerSaid (heard line name numbers)) after end × (left ++ drop (row .cells) run ≡ answerLeft (heard line name numbers))
-    unfolding answerSaid answerLeft
-    named-call stands asks put left-is = (rw (named, ← is, ← kept, stands, ← asks) put, rw (named, ← is, ← kept, stands, ← asks) (ap (λ l. l ++ drop (row .cells) run) left-is))
+  pub named-call : {word : Word} {left : List ℕ} → isCall (s .line .length) (s .name) row run ≡ true → word ≡ wordOf (take (s .line .length) (s .name))
+      → PutFew (answerMost - 1) out at (wordSaid word (take (row .cells) run)) after end → left ≡ wordLeft word (take (row .cells) run)
+      → Answered s out at (left ++ drop (row .cells) run) after end
+  unfolding answerSaid answerLeft
+  named-call stands asks put left-is = (
+    rw (so .named, ← so .last, ← so .kept, stands, ← asks) put,
+    rw (so .named, ← so .last, ← so .kept, stands, ← asks) (ap (λ l. l ++ drop (row .cells) run) left-is),
+  )
 
 -- ---- the run of the numbers keeps its length
 word-long : (word : Word) (ns : List ℕ) → length (wordLeft word ns) ≡ length ns

@@ -83,14 +83,15 @@ name-ended k name numbers (c ∷ cs) some =
     ap (λ j. cellsSaid j name (readCells 0 (begin numbers) (c ∷ cs))) same
 
 -- the name takes a byte
+put-as : (out : List ℕ) (at : ℕ) (bs : List ℕ) → Put out at bs (sets out at bs) (placeAfter (length out) at (length bs))
+put-as out at bs = record { place = refl; bytes = refl }
+
 name-taken : (k b : ℕ) (name numbers : List ℕ) (cs : List (List ℕ))
     → wordsOn (placeAfter (length name) k 1) (set name k b) numbers cs ≡ wordsOn k name numbers (inFront b cs)
 name-taken k b name numbers [] = refl
 name-taken k b name numbers (w ∷ []) = refl
 name-taken k b name numbers (w ∷ c ∷ cs) =
-    let first : Put name k (b ∷ []) (set name k b) (placeAfter (length name) k 1) = record { place = refl; bytes = refl } in
-    let rest : Put (set name k b) (placeAfter (length name) k 1) w (sets (set name k b) (placeAfter (length name) k 1) w) (placeAfter (length (set name k b)) (placeAfter (length name) k 1) (length w)) = record { place = refl; bytes = refl } in
-    let put = put-then first rest in
+    let put = put-then (put-as name k (b ∷ [])) (put-as (set name k b) (placeAfter (length name) k 1) w) in
     ap (λ j. cellsSaid j (sets (set name k b) (placeAfter (length name) k 1) w) (readCells 0 (begin numbers) (c ∷ cs))) (put .place)
     ∙ ap (λ n. cellsSaid (placeAfter (length name) k (suc (length w))) n (readCells 0 (begin numbers) (c ∷ cs))) (put .bytes)
 

@@ -1,12 +1,11 @@
 -- `calls::answer::put_answer` meets its contract: each way out is the law of its case.
 -- Assumes nothing.
 use borrow.Author.Needs.{needs}
-use native.Mathlib.Omega.{arith}
 use mathlib.Core.Path.{sym}
 use lib.Seq.{length-take-le}
 use borrow.Author.Tests.{eq-eqb, ne-eqb, not-true, not-false}
-use Rattle.calls.proofs.Answers.{ill-read, crowded, lost-name, called, unnamed-put, named-bad, named-call}
-use Rattle.words.proofs.Few.{few-more}
+use Rattle.calls.specs.Lines.{Heard, heard}
+use Rattle.calls.proofs.Answers.{Ended, ill-read, crowded, lost-name, called, unnamed-put, named-bad, named-call}
 use Rattle.calls.proofs.answer.put_answer.Statement.{statement}
 use Rattle.calls.proofs.answer.put_answer.Tie as tie
 
@@ -19,11 +18,21 @@ same-length c = search needs
 -- no blank
 returns : tie.Need-returns
 returns c =
-    let a = c .before .before .before .before .before .before .before .before .before .args in
-    unnamed-put (a .line) (a .name .now) (a .numbers .now) (not-true (a .line .named) (c .before .before .before .before .if1 .taken)) (few-more (omega arith) (c .before .before .put-bad .ensures))
+    let test = c .before .before .before .before in
+    unnamed-put _ (not-true _ (test .if1 .taken)) (c .before .before .put-bad .ensures)
 
 row-next-requires : tie.Need-row-next-requires
 row-next-requires c κs = search needs
+
+-- the line and its runs
+abbrev came : tie.Start → Heard
+came c = heard (c .args .line) (c .args .name .now) (c .args .numbers .now)
+
+-- the line's end has ended the last number
+ended : (c : tie.After-row-next) → Ended (came (c .before .before .before .before .before .before .before .before)) (c .row-next .result) (c .row-next .last .1 .1 .0)
+ended c =
+    let named = c .before .before .before .if1 .left in
+    record { named = not-false _ named; last = c .row-next .ensures .0; kept = c .row-next .ensures .1 }
 
 put-bad-requires-2 : tie.Need-put-bad-requires-2
 put-bad-requires-2 c κs = search needs
@@ -38,11 +47,8 @@ same-length-3 c = search needs
 returns-2 : tie.Need-returns-2
 returns-2 c =
     let test = c .before .before .before .before in
-    let ended = test .before .before .before .before in
-    let named = ended .before .before .before in
-    let a = named .before .before .before .before .before .args in
-    let row = ended .row-next in
-    named-bad (a .line) (a .name .now) (a .numbers .now) (row .ensures .0) (row .ensures .1) (not-false (a .line .named) (named .if1 .left)) (ill-read (a .line .length) (a .name .now) (row .result) _ (ne-eqb (row .result .bad) 0 (test .if2 .taken))) (few-more (omega arith) (c .before .before .put-bad2 .ensures))
+    let row = test .before .before .before .before in
+    named-bad (ended row) (ill-read _ _ _ _ (ne-eqb _ 0 (test .if2 .taken))) (c .before .before .put-bad2 .ensures)
 
 cast-count : tie.Need-cast-count
 cast-count c = search needs
@@ -61,11 +67,8 @@ returns-3 : tie.Need-returns-3
 returns-3 c =
     let test = c .before .before .before .before in
     let good = test .before .before in
-    let ended = good .before .before .before .before in
-    let named = ended .before .before .before in
-    let a = named .before .before .before .before .before .args in
-    let row = ended .row-next in
-    named-bad (a .line) (a .name .now) (a .numbers .now) (row .ensures .0) (row .ensures .1) (not-false (a .line .named) (named .if1 .left)) (crowded (a .line .length) (a .name .now) (row .result) _ (eq-eqb (row .result .bad) 0 (good .if2 .left)) (test .if3 .taken)) (few-more (omega arith) (c .before .before .put-bad3 .ensures))
+    let row = good .before .before .before .before in
+    named-bad (ended row) (crowded _ _ _ _ (eq-eqb _ 0 (good .if2 .left)) (test .if3 .taken)) (c .before .before .put-bad3 .ensures)
 
 put-bad-requires-4 : tie.Need-put-bad-requires-4
 put-bad-requires-4 c κs = search needs
@@ -82,11 +85,8 @@ returns-4 c =
     let test = c .before .before .before .before in
     let fits = test .before in
     let good = fits .before .before in
-    let ended = good .before .before .before .before in
-    let named = ended .before .before .before in
-    let a = named .before .before .before .before .before .args in
-    let row = ended .row-next in
-    named-bad (a .line) (a .name .now) (a .numbers .now) (row .ensures .0) (row .ensures .1) (not-false (a .line .named) (named .if1 .left)) (lost-name (a .line .length) (a .name .now) (row .result) _ (eq-eqb (row .result .bad) 0 (good .if2 .left)) (fits .if3 .left) (test .if4 .taken)) (few-more (omega arith) (c .before .before .put-bad4 .ensures))
+    let row = good .before .before .before .before in
+    named-bad (ended row) (lost-name _ _ _ _ (eq-eqb _ 0 (good .if2 .left)) (fits .if3 .left) (test .if4 .taken)) (c .before .before .put-bad4 .ensures)
 
 slice-aggregate-word-of : tie.Need-slice-aggregate-word-of
 slice-aggregate-word-of c = sym (length-take-le _ _ (c .before .if4 .left))
@@ -113,14 +113,13 @@ same-length-9 c = search needs
 returns-5 : tie.Need-returns-5
 returns-5 c =
     let said = c .before .before .before .before .put-word in
-    let test = c .before .before .before .before .before .before .before .before .before in
+    let asked = c .before .before .before .before .before .before .before in
+    let test = asked .before .before in
     let fits = test .before in
     let good = fits .before .before in
-    let ended = good .before .before .before .before in
-    let named = ended .before .before .before in
-    let a = named .before .before .before .before .before .args in
-    let row = ended .row-next in
-    named-call (a .line) (a .name .now) (a .numbers .now) (row .ensures .0) (row .ensures .1) (not-false (a .line .named) (named .if1 .left)) (called (a .line .length) (a .name .now) (row .result) _ (eq-eqb (row .result .bad) 0 (good .if2 .left)) (fits .if3 .left) (test .if4 .left)) (c .before .before .before .before .before .before .before .word-of .ensures) (said .ensures .0) (said .ensures .1)
+    let row = good .before .before .before .before in
+    let stands = called _ _ _ _ (eq-eqb _ 0 (good .if2 .left)) (fits .if3 .left) (test .if4 .left) in
+    named-call (ended row) stands (asked .word-of .ensures) (said .ensures .0) (said .ensures .1)
 
 pub put-answer-spec : {M : Type 1} → statement M
 put-answer-spec =

@@ -14,8 +14,9 @@ same-length c = search needs
 -- a number ends
 returns : tie.Need-returns
 returns c =
-    let a = c .before .before .before .before .before .before .before .before .before .args in
-    number-ends (a .line) (a .name .now) (a .numbers .now) (a .byte) (c .before .before .before .before .before .if1 .taken) (c .before .before .before .before .if2 .taken) (c .before .before .row-next .ensures .0) (c .before .before .row-next .ensures .1)
+    let ended = c .before .before in
+    let test = ended .before .before in
+    number-ends _ _ _ _ (test .before .if1 .taken) (test .if2 .taken) (ended .row-next .ensures .0) (ended .row-next .ensures .1)
 
 row-byte-requires : tie.Need-row-byte-requires
 row-byte-requires c κs = search needs
@@ -23,14 +24,12 @@ row-byte-requires c κs = search needs
 -- a number takes a byte
 returns-2 : tie.Need-returns-2
 returns-2 c =
-    let a = c .before .before .before .before .before .before .args in
-    number-takes (a .line) (a .name .now) (a .numbers .now) (a .byte) (c .before .before .if1 .taken) (c .before .if2 .left) (c .row-byte .ensures)
+    number-takes _ _ _ _ (c .before .before .if1 .taken) (c .before .if2 .left) (c .row-byte .ensures)
 
 -- the name ends
 returns-3 : tie.Need-returns-3
 returns-3 c =
-    let a = c .before .before .before .before .before .args in
-    name-ends (a .line) (a .name .now) (a .numbers .now) (a .byte) (c .before .if1 .left) (c .if3 .taken)
+    name-ends _ _ _ _ (c .before .if1 .left) (c .if3 .taken)
 
 put-byte-requires : tie.Need-put-byte-requires
 put-byte-requires c κs = search needs
@@ -41,8 +40,8 @@ same-length-2 c = search needs
 -- the name takes a byte
 returns-4 : tie.Need-returns-4
 returns-4 c =
-    let a = c .before .before .before .before .before .before .before .before .before .args in
-    name-takes (a .line) (a .name .now) (a .numbers .now) (a .byte) (c .before .before .before .before .before .if1 .left) (c .before .before .before .before .if3 .left) (c .before .before .put-byte .ensures)
+    let test = c .before .before .before .before in
+    name-takes _ _ _ _ (test .before .if1 .left) (test .if3 .left) (c .before .before .put-byte .ensures)
 
 pub line-byte-spec : {M : Type 1} → statement M
 line-byte-spec =

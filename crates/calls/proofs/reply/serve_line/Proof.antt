@@ -6,7 +6,6 @@ use native.Mathlib.Omega.{arith}
 use lib.ListN.{length}
 use Prim.Native.Nat.{_≤_}
 use lib.Seq.{length-take-le}
-use Rattle.calls.specs.Lines.{heard}
 use Rattle.calls.proofs.Lines.{line-within}
 use Rattle.calls.proofs.Serving.{served-within, served-ended, anew-is}
 use Rattle.calls.proofs.reply.serve_line.Statement.{statement}
@@ -33,9 +32,9 @@ same-length-2 c = search needs
 -- no line ends
 returns : tie.Need-returns
 returns c =
-    let a = c .before .before .before .before .before .before .before .before .before .before .before .before .before .before .args in
-    let heard-now = c .before .before .before .before .before .hear in
-    served-within (heard (a .line) (a .name .now) (a .numbers .now)) (a .bytes .now) _ (c .before .before .before .before .before .before .before .before .before .line-in .ensures) (heard-now .ensures) (c .if1 .taken)
+    let hears = c .before .before .before .before .before in
+    let ends = hears .before .before .before .before in
+    served-within _ _ _ (ends .line-in .ensures) (hears .hear .ensures) (c .if1 .taken)
 
 answer-requires : tie.Need-answer-requires
 answer-requires c κs = search needs
@@ -44,7 +43,11 @@ line-start-requires : tie.Need-line-start-requires
 line-start-requires c κs = search needs
 
 add-next : tie.Need-add-next
-add-next c = omega (arith, c .before .before .before .before .before .before .before .before .before .before .before .before .before .before .before .before .before .before .line-in .ensures, line-within (c .before .before .before .before .before .before .before .before .before .before .before .before .before .before .before .before .before .before .before .before .before .before .before .args .bytes .now), c .before .before .before .before .before .before .before .before .before .before .before .before .before .before .before .before .before .before .before .before .before .before .before .good .1 .0 .0)
+add-next c =
+    let test = c .before .before .before .before .before .before .before .before .before in
+    let ends = test .before .before .before .before .before .before .before .before .before in
+    let start = ends .before .before .before .before .before in
+    omega (arith, ends .line-in .ensures, line-within (start .args .bytes .now), start .good .1 .0 .0)
 
 same-length-3 : tie.Need-same-length-3
 same-length-3 c = search needs
@@ -58,10 +61,11 @@ same-length-5 c = search needs
 -- a line ends
 returns-2 : tie.Need-returns-2
 returns-2 c =
-    let a = c .before .before .before .before .before .before .before .before .before .before .before .before .before .before .before .before .before .before .before .before .before .before .before .args in
-    let heard-now = c .before .before .before .before .before .before .before .before .before .before .before .before .before .before .hear in
-    let said = c .before .before .before .before .before .answer in
-    served-ended (heard (a .line) (a .name .now) (a .numbers .now)) (a .bytes .now) _ (c .before .before .before .before .before .before .before .before .before .before .before .before .before .before .before .before .before .before .line-in .ensures) (heard-now .ensures) (c .before .before .before .before .before .before .before .before .before .if1 .left) (said .ensures .0) (anew-is _ (c .line-start .ensures) (said .ensures .1))
+    let said = c .before .before .before .before .before in
+    let test = said .before .before .before .before in
+    let hears = test .before .before .before .before .before in
+    let ends = hears .before .before .before .before in
+    served-ended _ _ _ (ends .line-in .ensures) (hears .hear .ensures) (test .if1 .left) (said .answer .ensures .0) (anew-is _ (c .line-start .ensures) (said .answer .ensures .1))
 
 pub serve-line-spec : {M : Type 1} → statement M
 serve-line-spec =

@@ -15,9 +15,7 @@ same-requires c κs = search needs
 
 returns : tie.Need-returns
 unfolding prefixWord
-returns c =
-    let name = c .before .before .before .before .args .name .now in
-    rw (same-list-is name (bytes "p2r") (c .before .same .ensures) (c .if1 .taken))
+returns c = rw (same-list-is _ (bytes "p2r") (c .before .same .ensures) (c .if1 .taken))
 
 slice-aggregate-same-2 : tie.Need-slice-aggregate-same-2
 slice-aggregate-same-2 c = search needs
@@ -28,14 +26,20 @@ same-requires-2 c κs = search needs
 returns-2 : tie.Need-returns-2
 unfolding prefixWord
 returns-2 c =
-    let name = c .before .before .before .before .before .before .before .args .name .now in
-    rw (same-list-is name (bytes "p2r") (c .before .before .before .before .same .ensures) (c .before .before .before .if1 .left), same-list-is name (bytes "r2p") (c .before .same2 .ensures) (c .if2 .taken))
+    let first = c .before .before .before in
+    rw (
+      same-list-is _ (bytes "p2r") (first .before .same .ensures) (first .if1 .left),
+      same-list-is _ (bytes "r2p") (c .before .same2 .ensures) (c .if2 .taken),
+    )
 
 returns-3 : tie.Need-returns-3
 unfolding prefixWord
 returns-3 c =
-    let name = c .before .before .before .before .before .before .before .args .name .now in
-    rw (same-list-is name (bytes "p2r") (c .before .before .before .before .same .ensures) (c .before .before .before .if1 .left), same-list-is name (bytes "r2p") (c .before .same2 .ensures) (c .if2 .left))
+    let first = c .before .before .before in
+    rw (
+      same-list-is _ (bytes "p2r") (first .before .same .ensures) (first .if1 .left),
+      same-list-is _ (bytes "r2p") (c .before .same2 .ensures) (c .if2 .left),
+    )
 
 pub prefix-word-spec : {M : Type 1} → statement M
 prefix-word-spec =

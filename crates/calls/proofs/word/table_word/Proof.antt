@@ -15,9 +15,7 @@ same-requires c κs = search needs
 
 returns : tie.Need-returns
 unfolding tableWord
-returns c =
-    let name = c .before .before .before .before .args .name .now in
-    rw (same-list-is name (bytes "build") (c .before .same .ensures) (c .if1 .taken))
+returns c = rw (same-list-is _ (bytes "build") (c .before .same .ensures) (c .if1 .taken))
 
 slice-aggregate-same-2 : tie.Need-slice-aggregate-same-2
 slice-aggregate-same-2 c = search needs
@@ -29,8 +27,10 @@ returns-2 : tie.Need-returns-2
 unfolding tableWord
 returns-2 c =
     let first = c .before .before .before in
-    let name = first .before .before .before .before .args .name .now in
-    rw (same-list-is name (bytes "build") (first .before .same .ensures) (first .if1 .left), same-list-is name (bytes "lookup") (c .before .same2 .ensures) (c .if2 .taken))
+    rw (
+      same-list-is _ (bytes "build") (first .before .same .ensures) (first .if1 .left),
+      same-list-is _ (bytes "lookup") (c .before .same2 .ensures) (c .if2 .taken),
+    )
 
 slice-aggregate-same-3 : tie.Need-slice-aggregate-same-3
 slice-aggregate-same-3 c = search needs
@@ -43,8 +43,11 @@ unfolding tableWord
 returns-3 c =
     let second = c .before .before .before in
     let first = second .before .before .before in
-    let name = first .before .before .before .before .args .name .now in
-    rw (same-list-is name (bytes "build") (first .before .same .ensures) (first .if1 .left), same-list-is name (bytes "lookup") (second .before .same2 .ensures) (second .if2 .left), same-list-is name (bytes "audit") (c .before .same3 .ensures) (c .if3 .taken))
+    rw (
+      same-list-is _ (bytes "build") (first .before .same .ensures) (first .if1 .left),
+      same-list-is _ (bytes "lookup") (second .before .same2 .ensures) (second .if2 .left),
+      same-list-is _ (bytes "audit") (c .before .same3 .ensures) (c .if3 .taken),
+    )
 
 slice-aggregate-same-4 : tie.Need-slice-aggregate-same-4
 slice-aggregate-same-4 c = search needs
@@ -58,8 +61,12 @@ returns-4 c =
     let third = c .before .before .before in
     let second = third .before .before .before in
     let first = second .before .before .before in
-    let name = first .before .before .before .before .args .name .now in
-    rw (same-list-is name (bytes "build") (first .before .same .ensures) (first .if1 .left), same-list-is name (bytes "lookup") (second .before .same2 .ensures) (second .if2 .left), same-list-is name (bytes "audit") (third .before .same3 .ensures) (third .if3 .left), same-list-is name (bytes "report") (c .before .same4 .ensures) (c .if4 .taken))
+    rw (
+      same-list-is _ (bytes "build") (first .before .same .ensures) (first .if1 .left),
+      same-list-is _ (bytes "lookup") (second .before .same2 .ensures) (second .if2 .left),
+      same-list-is _ (bytes "audit") (third .before .same3 .ensures) (third .if3 .left),
+      same-list-is _ (bytes "report") (c .before .same4 .ensures) (c .if4 .taken),
+    )
 
 prefix-word-requires : tie.Need-prefix-word-requires
 prefix-word-requires c κs = search needs
@@ -71,8 +78,12 @@ returns-5 c =
     let third = fourth .before .before .before in
     let second = third .before .before .before in
     let first = second .before .before .before in
-    let name = first .before .before .before .before .args .name .now in
-    rw (same-list-is name (bytes "build") (first .before .same .ensures) (first .if1 .left), same-list-is name (bytes "lookup") (second .before .same2 .ensures) (second .if2 .left), same-list-is name (bytes "audit") (third .before .same3 .ensures) (third .if3 .left), same-list-is name (bytes "report") (fourth .before .same4 .ensures) (fourth .if4 .left)) (c .prefix-word .ensures)
+    rw (
+      same-list-is _ (bytes "build") (first .before .same .ensures) (first .if1 .left),
+      same-list-is _ (bytes "lookup") (second .before .same2 .ensures) (second .if2 .left),
+      same-list-is _ (bytes "audit") (third .before .same3 .ensures) (third .if3 .left),
+      same-list-is _ (bytes "report") (fourth .before .same4 .ensures) (fourth .if4 .left),
+    ) (c .prefix-word .ensures)
 
 pub table-word-spec : {M : Type 1} → statement M
 table-word-spec =
