@@ -10,7 +10,7 @@ use lib.ListN.{take}
 use Rattle.ranges.proofs.OneAnswer.{OneAnswer, OneRun}
 use Rattle.text.specs.Cells.{fed}
 use Rattle.text.specs.Puts.{Put}
-use Rattle.words.proofs.Determined.{place-one, bytes-one}
+use Rattle.text.proofs.Determined.{place-one, bytes-one}
 use Rattle.calls.specs.declared.reply.Place.{Place}
 use Rattle.calls.specs.Lines.{Heard, heard}
 use Rattle.calls.specs.Replies.{servedByte, saidTo, ServedLines}
@@ -52,13 +52,13 @@ word-of-one κs a x y e g p q = p ∙ sym q
 
 -- ---- answer
 pub answer-one : OneAnswer 3 answer-kinds.ps answer-kinds.r answer.Learnt
-answer-one κs a x y e g p q = place-one (p .0) (q .0)
+answer-one κs a x y e g p q = place-one (p .0 .puts) (q .0 .puts)
 
 pub answer-numbers-one : OneRun 3 answer-kinds.ps answer-kinds.r answer.Learnt (λ κs e. now (e .1 .1 .0))
 answer-numbers-one κs a x y e g p q = p .1 ∙ sym (q .1)
 
 pub answer-bytes-one : OneRun 3 answer-kinds.ps answer-kinds.r answer.Learnt (λ κs e. now (e .1 .1 .1 .0))
-answer-bytes-one κs a x y e g p q = bytes-one (p .0) (q .0)
+answer-bytes-one κs a x y e g p q = bytes-one (p .0 .puts) (q .0 .puts)
 
 -- ---- reply
 -- where serving has come to, the line's two runs, and the answers' bytes
@@ -77,12 +77,12 @@ module _ {s : Heard} {bytes out : List ℕ} {x y : Place} {name name′ numbers 
   placed-one : x ≡ y
   placed-one =
       let line : x .line ≡ y .line = ap (λ h. h .line) heard-one in
-      let at : x .at ≡ y .at = said-at .place ∙ sym (q .said .place) in
+      let at : x .at ≡ y .at = place-one said-at (q .said) in
       let next = next-one in
       rw (line, next, at)
 
   put-one : after ≡ after′
-  put-one = said-at .bytes ∙ sym (q .said .bytes)
+  put-one = bytes-one said-at (q .said)
 
 pub serve-lines-one : OneAnswer 4 serve-lines-kinds.ps serve-lines-kinds.r serve-lines.Learnt
 serve-lines-one κs a x y e g p q = placed-one p q
@@ -97,10 +97,10 @@ pub serve-lines-bytes-one : OneRun 4 serve-lines-kinds.ps serve-lines-kinds.r se
 serve-lines-bytes-one κs a x y e g p q = put-one p q
 
 pub put-last-one : OneAnswer 3 put-last-kinds.ps put-last-kinds.r put-last.Learnt
-put-last-one κs a x y e g p q = p .said .place ∙ sym (q .said .place)
+put-last-one κs a x y e g p q = place-one (p .said) (q .said)
 
 pub put-last-numbers-one : OneRun 3 put-last-kinds.ps put-last-kinds.r put-last.Learnt (λ κs e. now (e .1 .1 .0))
 put-last-numbers-one κs a x y e g p q = p .left-is ∙ sym (q .left-is)
 
 pub put-last-bytes-one : OneRun 3 put-last-kinds.ps put-last-kinds.r put-last.Learnt (λ κs e. now (e .1 .1 .1 .0))
-put-last-bytes-one κs a x y e g p q = p .said .bytes ∙ sym (q .said .bytes)
+put-last-bytes-one κs a x y e g p q = bytes-one (p .said) (q .said)
