@@ -1,6 +1,6 @@
 -- The two passes over a range's prefixes on plain values: the one that counts them and the one that writes them.
 --     Left, left-start, left-more, left-end            counting: so many are passed, and these are left
---     Written, written-start, written-more, written-end      writing: these are written, and these are left
+--     Written, same-long, written-start, written-more, written-end      writing: these are written, and these are left; the run keeps its length
 -- Each turn takes the largest block off what is left (`Expansion.antt`), so the number at which it starts rises by one at least.
 -- Assumes nothing.
 use Prim.Native.Nat.{ℕ, suc, _+_, _-_, _*_, _^_, _≤_, _<_}
@@ -113,6 +113,13 @@ pub written-start : {w low high : ℕ} (run : List ℕ) → Ranged w low high �
 unfolding written
 written-start run r = record { done = []; to-end = omega (arith, r .ordered); so-far = refl; join = refl; now-is = refl }
 
+-- the run is as long as it was, wherever the loop stands
+pub same-long : {w low high at k : ℕ} {run₀ run : List ℕ} → Written w low high at k run₀ run → length (prefixesOf w low high) * 2 ≤ length run₀
+    → length run ≡ length run₀
+same-long {w} {low} {high} {at} {run₀ = run₀} g room =
+    ap length (g .now-is)
+    ∙ written-length (g .done) run₀ (omega (arith, length-append (g .done) (prefixesOf w at high), ap length (g .join), room))
+
 module _ {w low high at k : ℕ} {run₀ run : List ℕ} (g : Written w low high at k run₀ run) (le : at ≤ high) where
   -- one prefix at least is left
   one-left : length (g .done) + suc (length (prefixesOf w (nextOf w at high) high)) ≡ length (prefixesOf w low high)
@@ -124,9 +131,6 @@ module _ {w low high at k : ℕ} {run₀ run : List ℕ} (g : Written w low high
     -- so the run has places for it
     pub room-here : k + 1 < length run₀
     room-here = omega (arith, one-left, g .so-far, room)
-
-    pub same-long : length run ≡ length run₀
-    same-long = ap length (g .now-is) ∙ written-length (g .done) run₀ (omega (arith, one-left, room))
 
     pub written-more : {s t : ℕ} → s ≡ 2 ^ blockOf w at high → t ≡ blockOf w at high → Written w low high (at + s) (k + 2) run₀ (set (set run k at) (k + 1) (w - t))
     written-more {s} {t} is-s is-t =
