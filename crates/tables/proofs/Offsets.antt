@@ -136,10 +136,10 @@ pub start-few : {room q : ℕ} → room < 2 ^ 16 → q < 2 ^ 16 → startAt room
 unfolding startAt orderAt
 start-few few-room few-q = omega arith
 
-module _ {room d p f : ℕ} (few-room : room < 2 ^ 16) (few-d : d < 2 ^ 16) (few-p : p < 2 ^ 16) (few-f : f < 2 ^ 16) where
-  pub from-few : fromAt room d p f ≤ 4295032834
-  unfolding fromAt
-  from-few = omega (arith, start-few few-room few-room, row-few few-d few-p few-f)
+-- where a callee told it, of whichever place and field
+pub from-few : (room d p f : ℕ) {at : ℕ} → at ≡ fromAt room d p f → room < 2 ^ 16 → d < 2 ^ 16 → p < 2 ^ 16 → f < 2 ^ 16 → at ≤ 4295032834
+unfolding fromAt
+from-few room d p f is few-room few-d few-p few-f = omega (arith, is, start-few few-room few-room, row-few few-d few-p few-f)
 
 -- ---- the longest table
 pub most-table : mostTable ≡ 18436

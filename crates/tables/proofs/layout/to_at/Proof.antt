@@ -18,8 +18,7 @@ add-result c =
     let fit = c .before .before .fits in
     omega (
       arith,
-      c .before .from-at .ensures,
-      from-few {f = 0} (fit .room .fits) (fit .d .fits) (fit .room .fits) (omega arith),
+      from-few _ _ _ _ (c .before .from-at .ensures) (fit .room .fits) (fit .d .fits) (omega (arith, fit .room .fits)) (omega arith),
       c .row-of .ensures,
       row-few (fit .d .fits) (fit .p .fits) (fit .f .fits),
     )
