@@ -48,7 +48,10 @@ returns c =
     ∙ sym (visited-broken (turn .before .loop .inv) (turn .loop-test .taken) _ (visited .visit .ensures) (told .enum-told .given .1))
 
 add-q : tie.Need-add-q Inv-loop μ-loop
-add-q c = search needs
+add-q c =
+    let turn = c .before .before .before .before in
+    let st = turn .before .before .before .before in
+    omega (arith, turn .loop-test .taken, st .pre .1, st .pre .0 .rules, few-rules (st .pre .0))
 
 -- a partition's tests are few
 tests-few : (c : tie.After-known-told Inv-loop μ-loop) → c .before .walked .given .0 .1 .0 ≤ 18

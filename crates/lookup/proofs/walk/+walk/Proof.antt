@@ -93,6 +93,15 @@ left-smaller t c =
     let a = row .before .before .before .args in
     told-smaller _ _ _ _ (a .shape .d) (a .s) (a .e) (a .f) _ _ _ (row .before .before .if1 .left) (row .if2 .left) (step .one-step .ensures) (c .before .step .given .1)
 
+-- a step, and the walk on what it leaves; before what the walk asks, so that a wrong count fails here first
+walk-returns-4 : (t : ℕ) → walk-lts.Need-returns-4 (claims t) (walk-at t) walk.Post
+walk-returns-4 t c =
+    let went = c .before .before in
+    let step = went .before .before in
+    let row = step .before .before .before in
+    every-on _ _ _ _ _ _ _ _ _ (row .before .before .if1 .left) (row .if2 .left) _ _ _ _ _ (step .one-step .ensures) (went .step .given .1)
+    (left-smaller t (c .before) .falls) (c .walk .ensures)
+
 walk-walk-requires : (t : ℕ) → walk-lts.Need-walk-requires (claims t) (walk-at t) walk.Post
 walk-walk-requires t c κs =
     let st = c .before .before .before .before .before .before .before .before .before in
@@ -104,15 +113,6 @@ walk-walk-requires t c κs =
         record { in-table = omega (arith, going .in-table, less .ends); in-row = less .field; few-tests = omega (arith, going .few-tests, less .falls) },
       ),
     )
-
--- a step, and the walk on what it leaves
-walk-returns-4 : (t : ℕ) → walk-lts.Need-returns-4 (claims t) (walk-at t) walk.Post
-walk-returns-4 t c =
-    let went = c .before .before in
-    let step = went .before .before in
-    let row = step .before .before .before in
-    every-on _ _ _ _ _ _ _ _ _ (row .before .before .if1 .left) (row .if2 .left) _ _ _ _ _ (step .one-step .ensures) (went .step .given .1)
-    (left-smaller t (c .before) .falls) (c .walk .ensures)
 
 pub +walk-spec : {M : Type 1} → statement M
 +walk-spec =
