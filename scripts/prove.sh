@@ -23,8 +23,8 @@ prove() { # CALLER NAME WORD..: the words are rt's; NAME is the crate that they 
         esac
     done < <(cd "$root" && rt "$@" </dev/null 2>&1; echo "$?")
     exec {lock}<&-
-    # the last line is rt's exit status
-    [ "${said[-1]}" != 0 ] || return 0
+    # the last line is rt's exit status; what it has looked at now is not announced again
+    [ "${said[-1]}" != 0 ] || { [ ! -f "$stamp" ] || touch "$stamp"; return 0; }
     unset 'said[-1]'
     printf '%s\n' "${said[@]}" | head -n 60 >&2
     echo "$caller: $name is not proved; 'rt $*' in $root says all" >&2
