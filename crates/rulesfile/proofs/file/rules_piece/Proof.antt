@@ -41,14 +41,14 @@ add-i : tie.Need-add-i Inv-loop μ-loop
 add-i c =
     let step = c .before .before .before .before in
     let head = step .before .before .before .before in
-    let on = line-on (head .loop .present .reader .cr) (head .before .before .before .args .bytes .now) (head .loop .i) (step .before .before .before .loop-test .taken) (step .rules-line .ensures .used) in
+    let on = line-on _ (head .before .before .before .args .bytes .now) (head .loop .i) (step .before .before .before .loop-test .taken) (step .rules-line .ensures .used) in
     omega (arith, on .0, on .1)
 
 loop-less : tie.Need-loop-less Inv-loop μ-loop
 loop-less c =
     let step = c .before .before .before .before in
     let head = step .before .before .before .before in
-    let on = line-on (head .loop .present .reader .cr) (head .before .before .before .args .bytes .now) (head .loop .i) (step .before .before .before .loop-test .taken) (step .rules-line .ensures .used) in
+    let on = line-on _ (head .before .before .before .args .bytes .now) (head .loop .i) (step .before .before .before .loop-test .taken) (step .rules-line .ensures .used) in
     omega (arith, on .0, on .1)
 
 loop-again : tie.Need-loop-again Inv-loop μ-loop
@@ -56,7 +56,7 @@ loop-again c =
     let step = c .before .before .before .before in
     let head = step .before .before .before .before in
     let a = head .before .before .before .args in
-    let on = line-on (head .loop .present .reader .cr) (a .bytes .now) (head .loop .i) (step .before .before .before .loop-test .taken) (step .rules-line .ensures .used) in (
+    let on = line-on _ (a .bytes .now) (head .loop .i) (step .before .before .before .loop-test .taken) (step .rules-line .ensures .used) in (
       on .1,
       step .rules-line .kept .1 .1 .0 ∙ head .loop .inv .1,
       step .rules-line .ensures .file
