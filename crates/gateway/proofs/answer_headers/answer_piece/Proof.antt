@@ -2,13 +2,15 @@
 -- what they print is written (`TurnOn`); the measure is what is left.
 -- Assumes nothing.
 use borrow.Author.Needs.{needs}
-use Prim.Native.Nat.{_-_}
-use mathlib.Core.Path.{_∙_}
+use Prim.Native.Nat.{ℕ, _+_, _-_, _≤_, _<_}
+use mathlib.Core.List.{List}
+use mathlib.Core.Path.{_≡_, ap, _∙_}
 use native.Mathlib.Omega.{arith}
-use lib.ListN.{length}
+use lib.ListN.{length, take, drop, length-drop}
 use Rattle.lists.specs.Rules.{listed}
+use Rattle.text.proofs.Feeding.{rest-is}
 use Rattle.gateway.proofs.Printing.{wrote-long}
-use Rattle.gateway.proofs.Serving.{TurnOn, turn-start, turn-more, turn-all, turn-some, piece-taken}
+use Rattle.gateway.proofs.Serving.{TurnOn, turn-start, turn-more, turn-all, turn-some}
 use Rattle.gateway.proofs.answer_headers.answer_piece.Statement.{statement}
 use Rattle.gateway.proofs.answer_headers.answer_piece.Tie as tie
 
@@ -33,12 +35,21 @@ part-headers-piece-end c = search needs
 headers-piece-requires : tie.Need-headers-piece-requires Inv-loop μ-loop
 headers-piece-requires c κs = omega (arith, c .before .before .before .before .loop .inv .long, c .before .before .before .before .before .before .before .before .before .pre)
 
+-- how many bytes are taken, whatever state the piece was read from
+part-taken : (bytes : List ℕ) (from used : ℕ) → from < length bytes → used ≤ length (take (length bytes - from) (drop from bytes))
+    → (0 < length (take (length bytes - from) (drop from bytes)) → 0 < used) → (0 < used) × (from + used ≤ length bytes)
+part-taken bytes from used more most some =
+    let size : length (take (length bytes - from) (drop from bytes)) ≡ length bytes - from = ap length (rest-is bytes from) ∙ length-drop from bytes in
+    let full : 0 < length (take (length bytes - from) (drop from bytes)) = omega arith in
+    (some full, omega arith)
+
 add-from : tie.Need-add-from Inv-loop μ-loop
 add-from c =
     let piece = c .before .before .before .before in
     let head = piece .before .before .before .before .before in
-    let taken = piece-taken _ _ _ _ _ (head .loop .inv) (piece .before .before .before .before .loop-test .taken) (piece .headers-piece .ensures) in
-    omega (arith, taken .0, taken .1, head .before .before .before .before .before .good .1 .0 .0)
+    let entry = head .before .before .before .before .before in
+    let taken = part-taken (entry .args .bytes .now) (head .loop .from) _ (piece .before .before .before .before .loop-test .taken) (piece .headers-piece .ensures .most) (piece .headers-piece .ensures .some) in
+    omega (arith, taken .0, taken .1, entry .good .1 .0 .0)
 
 write-out-requires : tie.Need-write-out-requires Inv-loop μ-loop
 write-out-requires c κs = search needs
@@ -55,8 +66,9 @@ loop-less : tie.Need-loop-less Inv-loop μ-loop
 loop-less c =
     let piece = c .before .before .before .before .before .before .before in
     let head = piece .before .before .before .before .before in
-    let taken = piece-taken _ _ _ _ _ (head .loop .inv) (piece .before .before .before .before .loop-test .taken) (piece .headers-piece .ensures) in
-    omega (arith, taken .0, taken .1, head .before .before .before .before .before .good .1 .0 .0)
+    let entry = head .before .before .before .before .before in
+    let taken = part-taken (entry .args .bytes .now) (head .loop .from) _ (piece .before .before .before .before .loop-test .taken) (piece .headers-piece .ensures .most) (piece .headers-piece .ensures .some) in
+    omega (arith, taken .0, taken .1, entry .good .1 .0 .0)
 
 loop-again : tie.Need-loop-again Inv-loop μ-loop
 loop-again c =

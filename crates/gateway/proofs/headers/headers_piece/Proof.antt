@@ -7,8 +7,9 @@ use mathlib.Core.Path.{_∙_}
 use native.Mathlib.Omega.{arith}
 use lib.ListN.{length}
 use Rattle.lists.specs.Rules.{listed}
+use Rattle.text.proofs.Files.{line-on}
 use Rattle.answers.specs.Said.{lineMost}
-use Rattle.gateway.proofs.Printing.{wrote-long, Going, going-start, going-more, line-taken, piece-full, piece-all}
+use Rattle.gateway.proofs.Printing.{wrote-long, Going, going-start, going-more, piece-full, piece-all}
 use Rattle.gateway.proofs.headers.headers_piece.Statement.{statement}
 use Rattle.gateway.proofs.headers.headers_piece.Tie as tie
 
@@ -40,8 +41,9 @@ add-i : tie.Need-add-i Inv-loop μ-loop
 add-i c =
     let line = c .before .before .before .before in
     let head = line .before .before .before .before .before in
-    let taken = line-taken _ _ _ _ _ _ (head .loop .inv) (line .before .before .before .before .loop-test .taken) (line .headers-line .ensures) in
-    omega (arith, taken .1, head .before .before .before .before .before .good .1 .0 .0)
+    let entry = head .before .before .before .before .before in
+    let taken = line-on _ (entry .args .bytes .now) (head .loop .i) (line .before .before .before .before .loop-test .taken) (line .headers-line .ensures .used) in
+    omega (arith, taken .1, entry .good .1 .0 .0)
 
 sub-if1 : tie.Need-sub-if1 Inv-loop μ-loop
 sub-if1 c =
@@ -65,7 +67,8 @@ loop-less : tie.Need-loop-less Inv-loop μ-loop
 loop-less c =
     let line = c .before .before .before .before .before in
     let head = line .before .before .before .before .before in
-    let taken = line-taken _ _ _ _ _ _ (head .loop .inv) (line .before .before .before .before .loop-test .taken) (line .headers-line .ensures) in
+    let entry = head .before .before .before .before .before in
+    let taken = line-on _ (entry .args .bytes .now) (head .loop .i) (line .before .before .before .before .loop-test .taken) (line .headers-line .ensures .used) in
     omega (arith, taken .0, taken .1)
 
 loop-again : tie.Need-loop-again Inv-loop μ-loop
