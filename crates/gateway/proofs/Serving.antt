@@ -2,7 +2,7 @@
 --     readied-bytes                                           what was read
 --     RulesOn, on-start, on-more, on-flawed, on-ended         its pieces, one after the other
 --     said-front, end-front, quiet-fed, quiet-end             what was printed before does not matter
---     TurnOn, turn-start, turn-more, turn-all, turn-some      the bytes of one read
+--     part-taken, TurnOn, turn-start, turn-more, turn-all, turn-some    the bytes of one read
 --     HeadersOn, headers-start, headers-more, headers-ended   the headers file's pieces, one after the other
 --     read-at-front                                           answered by what stands at the front of what is lent
 -- Assumes nothing.
@@ -116,6 +116,14 @@ module _ (R : Rules) (T : List ℕ) where
   quiet-end s = ap (λ r. headersEnd R T r .headers) (said-front s) ∙ ap (λ y. y .headers) (end-front (s .at .own .said) (quiet s))
 
 -- ---- the bytes of one read
+-- how many of those left a turn takes, whatever state it reads them from: one at least, and no more than there are
+pub part-taken : (bytes : List ℕ) (from used : ℕ) → from < length bytes → used ≤ length (take (length bytes - from) (drop from bytes))
+    → (0 < length (take (length bytes - from) (drop from bytes)) → 0 < used) → (0 < used) × (from + used ≤ length bytes)
+part-taken bytes from used more most some =
+    let size : length (take (length bytes - from) (drop from bytes)) ≡ length bytes - from = ap length (rest-is bytes from) ∙ length-drop from bytes in
+    let full : 0 < length (take (length bytes - from) (drop from bytes)) = omega arith in
+    (some full, omega arith)
+
 pub record TurnOn (R : Rules) (T : List ℕ) (f : HeadersFile) (bytes header : List ℕ) (n : ℕ) (present : HeadersFile) (left out : List ℕ) (from : ℕ) : Type 0 where
   pub within : from ≤ length bytes
   pub long : length out ≡ n
@@ -130,12 +138,6 @@ module _ (R : Rules) (T : List ℕ) (f : HeadersFile) (bytes header : List ℕ) 
     turn-all all = record { used = from; state = before .state; all = λ goes. omega (arith, before .within) }
 
     module _ (more : from < length bytes) {r : Progress} {left' after : List ℕ} (took : HeadersPiece R T present (take (length bytes - from) (drop from bytes)) left out r left' after) where
-      pub piece-taken : (0 < r .used) × (from + r .used ≤ length bytes)
-      piece-taken =
-          let size : length (take (length bytes - from) (drop from bytes)) ≡ length bytes - from = ap length (rest-is bytes from) ∙ length-drop from bytes in
-          let some : 0 < length (take (length bytes - from) (drop from bytes)) = omega arith in
-          (took .some some, omega (arith, took .most))
-
       state-then : headersInFile (r .file) left' [] ≡ quiet (headersFed R T f header (take (from + r .used) bytes))
       state-then =
           let part = take (r .used) (take (length bytes - from) (drop from bytes)) in
@@ -145,7 +147,7 @@ module _ (R : Rules) (T : List ℕ) (f : HeadersFile) (bytes header : List ℕ) 
           ∙ ap quiet (sym (fed-on (headersStep R T) (headersInFile f header []) bytes from (r .used)))
 
       pub turn-more : length after ≡ length out → TurnOn R T f bytes header n (r .file) left' after (from + r .used)
-      turn-more kept = record { within = piece-taken .1; long = kept ∙ before .long; state = state-then }
+      turn-more kept = record { within = part-taken bytes from (r .used) more (took .most) (took .some) .1; long = kept ∙ before .long; state = state-then }
 
       -- what they print can't be written
       pub turn-some : TurnTook R T f bytes header (record { file = r .file; going = false }) left'

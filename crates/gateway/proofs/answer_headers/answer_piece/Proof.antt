@@ -2,15 +2,13 @@
 -- what they print is written (`TurnOn`); the measure is what is left.
 -- Assumes nothing.
 use borrow.Author.Needs.{needs}
-use Prim.Native.Nat.{ℕ, _+_, _-_, _≤_, _<_}
-use mathlib.Core.List.{List}
-use mathlib.Core.Path.{_≡_, ap, _∙_}
+use Prim.Native.Nat.{_-_}
+use mathlib.Core.Path.{_∙_}
 use native.Mathlib.Omega.{arith}
-use lib.ListN.{length, take, drop, length-drop}
+use lib.ListN.{length}
 use Rattle.lists.specs.Rules.{listed}
-use Rattle.text.proofs.Feeding.{rest-is}
 use Rattle.gateway.proofs.Printing.{wrote-long}
-use Rattle.gateway.proofs.Serving.{TurnOn, turn-start, turn-more, turn-all, turn-some}
+use Rattle.gateway.proofs.Serving.{part-taken, TurnOn, turn-start, turn-more, turn-all, turn-some}
 use Rattle.gateway.proofs.answer_headers.answer_piece.Statement.{statement}
 use Rattle.gateway.proofs.answer_headers.answer_piece.Tie as tie
 
@@ -34,14 +32,6 @@ part-headers-piece-end c = search needs
 
 headers-piece-requires : tie.Need-headers-piece-requires Inv-loop μ-loop
 headers-piece-requires c κs = omega (arith, c .before .before .before .before .loop .inv .long, c .before .before .before .before .before .before .before .before .before .pre)
-
--- how many bytes are taken, whatever state the piece was read from
-part-taken : (bytes : List ℕ) (from used : ℕ) → from < length bytes → used ≤ length (take (length bytes - from) (drop from bytes))
-    → (0 < length (take (length bytes - from) (drop from bytes)) → 0 < used) → (0 < used) × (from + used ≤ length bytes)
-part-taken bytes from used more most some =
-    let size : length (take (length bytes - from) (drop from bytes)) ≡ length bytes - from = ap length (rest-is bytes from) ∙ length-drop from bytes in
-    let full : 0 < length (take (length bytes - from) (drop from bytes)) = omega arith in
-    (some full, omega arith)
 
 add-from : tie.Need-add-from Inv-loop μ-loop
 add-from c =
