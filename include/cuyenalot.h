@@ -14,7 +14,8 @@
  *
  * What comes back
  *
- * Every function returns the refusal number, 0 where nothing is refused, and writes every number of its answer:
+ * Every function but cuy_version returns the refusal number, 0 where nothing is refused, and writes every number of its
+ * answer:
  *
  *     answer[0]       the refusal number once more
  *     answer[1], [2]  the refusal's place, at and then; 0 and 0 where nothing is refused
