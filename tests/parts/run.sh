@@ -8,7 +8,7 @@ ends_with() { # STATUS WHAT WORD..: standard input is empty
     (cd "$pair" && exec timeout "$limit" "$root/run" "$@") >"$scratch/got" 2>"$scratch/said" </dev/null
     ended=$?
     [ "$ended" = "$status" ] || echo "  ended with $ended"
-    [ "$ended" = "$status" ] && ! grep -q '^r[tu][: n]' "$scratch/said"
+    [ "$ended" = "$status" ] && ! grep -qE '^(rt|run): ' "$scratch/said"
     judge $? "./run $* ends with $status: $what"
 }
 
