@@ -1,24 +1,23 @@
 # How ./run behaves: exit status, what it says of itself, from where it may be called, and several at once. Sourced by
 # tests/run; uses root, second, scratch, limit, judge. Each check is a case. The programs must be proved.
 
-# The exit status of ./run in the folder of the pair, and that it says nothing more on standard error than the program.
-ends_with() { # STATUS WHAT WORD..: standard input is empty
+# The exit status of ./run in the folder of the pair, and that its output is what the program by itself writes, both ways.
+ends_with() { # STATUS WHAT PROGRAM WORD..: standard input is empty
     local status=$1 what=$2 ended
     shift 2
     (cd "$pair" && exec timeout "$limit" "$root/run" "$@") >"$scratch/got" 2>"$scratch/said" </dev/null
     ended=$?
+    (cd "$pair" && exec timeout "$limit" "${!1}" "${@:2}") >"$scratch/want" 2>"$scratch/want-said" </dev/null
     [ "$ended" = "$status" ] || echo "  ended with $ended"
-    [ "$ended" = "$status" ] && ! grep -qE '^(rt|run): ' "$scratch/said"
+    [ "$ended" = "$status" ] && cmp -s "$scratch/want" "$scratch/got" && cmp -s "$scratch/want-said" "$scratch/said"
     judge $? "./run $* ends with $status: $what"
 }
 
 status_of_gateway() {
     fresh_pair
     ends_with 0 'every header is answered' gateway
-    "$second" gateway "$pair/rules.csv" "$pair/headers.csv" | cmp -s - "$scratch/got"
-    judge $? './run gateway prints what the program prints'
-    [ ! -s "$scratch/said" ]
-    judge $? './run says nothing where nothing had to be proved'
+    "$second" gateway "$pair/rules.csv" "$pair/headers.csv" | cmp -s - "$scratch/got" && [ ! -s "$scratch/said" ]
+    judge $? './run gateway prints the answers, and says nothing where nothing had to be proved'
     ends_with 0 'the files are named' gateway rules.csv headers.csv
     ends_with 0 'help was asked for' gateway --help
     headers '7,250\r\nx\r\n'
@@ -47,6 +46,10 @@ status_of_gateway() {
     timeout "$limit" "$root/run" gateway "$pair/rules.csv" - >/dev/null 2>&1 <&-
     [ $? = 1 ]
     judge $? './run gateway ends with 1 where its headers can not be read'
+    bench_folder
+    timeout "$limit" "$root/run" gateway "$scratch/bench/rules.csv" "$scratch/bench/headers.csv" 2>/dev/null </dev/null | head -n 1 >/dev/null
+    [ "${PIPESTATUS[0]}" = 141 ]
+    judge $? './run gateway ends with 141 where its reader goes away'
 }
 
 status_of_calls() {
@@ -70,9 +73,9 @@ status_of_calls() {
 
 status_of_itself() {
     fresh_pair
-    ends_with 0 'help was asked for' --help
-    grep -q '^gateway ' "$scratch/got" && grep -q '^calls ' "$scratch/got"
-    judge $? './run --help lists the programs'
+    (cd "$pair" && "$root/run" --help >"$scratch/got" 2>"$scratch/said")
+    [ $? = 0 ] && [ ! -s "$scratch/said" ] && grep -q '^gateway ' "$scratch/got" && grep -q '^calls ' "$scratch/got"
+    judge $? './run --help ends with 0 and lists the programs'
     (cd "$pair" && "$root/run" >/dev/null 2>&1)
     [ $? = 2 ]
     judge $? './run alone ends with 2'
@@ -100,7 +103,7 @@ status_is_heard() {
         TERM=dumb script -qec "$(printf '%q ' "$status" sh -c '[ -t 0 ] && [ -t 1 ] && [ -t 2 ] && printf 0 >&9')" /dev/null </dev/null >/dev/null 2>&1
         judge $? 'with-status keeps a terminal a terminal for the program'
     fi
-    if command -v setpriv >/dev/null; then
+    if setpriv --pdeathsig TERM -- true 2>/dev/null; then
         mkfifo "$scratch/alive"
         "$status" sh -c 'echo up; exec sleep 60 9>&-' >"$scratch/alive" &
         exec 7<"$scratch/alive"
@@ -137,7 +140,7 @@ run_at_once() { # ROUNDS
     "$second" gateway "$pair/rules.csv" "$pair/headers.csv" >"$scratch/want"
     for ((round = 1; round <= $1; round++)); do
         for i in 1 2 3 4; do
-            (cd "$pair" && timeout "$limit" "$root/run" gateway >"$scratch/at-once-$i" 2>&1 </dev/null; echo "$?" >"$scratch/status-$i") &
+            (cd "$pair" && timeout "$limit" "$root/run" gateway >"$scratch/at-once-$i" 2>/dev/null </dev/null; echo "$?" >"$scratch/status-$i") &
         done
         wait
         for i in 1 2 3 4; do
@@ -147,15 +150,21 @@ run_at_once() { # ROUNDS
     done
 }
 
-# A repository that can't be written says so. Root may write everywhere, so root tries this as nobody, if it can.
+# Copies the repository, as far as ./run needs it, with what was proved.
+copy_repository() { # FOLDER
+    mkdir -p "$1/target"
+    cp -R "$root/run" "$root/scripts" "$root/crates.txt" "$root/crates" "$1/"
+    cp -R "$root"/target/{log,stamp,rlib,bin} "$1/target/"
+}
+
+# A repository that can't be written says so, also where only what was proved can't. Root may write everywhere, so root tries
+# this as nobody, if it can.
 run_unwritable() {
     local drop=() copy=$scratch/unwritable
-    mkdir -p "$copy/crates"
-    cp -R "$root/run" "$root/scripts" "$root/crates.txt" "$copy/"
-    cp -R "$root/crates/gateway" "$copy/crates/"
+    copy_repository "$copy"
     chmod 755 "$scratch"
-    chmod -R a+rX,a-w "$copy"
-    if [ "$(id -u)" = 0 ]; then drop=(setpriv --reuid=65534 --regid=65534 --clear-groups); fi
+    chmod -R a+rX,go-w "$copy"
+    if [ "$(id -u)" = 0 ]; then drop=(setpriv --reuid=65534 --regid=65534 --clear-groups); else chmod -R a-w "$copy"; fi
     if "${drop[@]}" test -x "$(command -v rt)" 2>/dev/null; then
         "${drop[@]}" "$copy/run" gateway >"$scratch/got" 2>"$scratch/said" </dev/null
         [ $? = 1 ] && [ ! -s "$scratch/got" ] && grep -q "can't be written" "$scratch/said"
@@ -167,13 +176,36 @@ run_unwritable() {
     rm -rf "$copy"
 }
 
+# A program that is not proved is not run, and the cause comes first.
+run_unproved() {
+    local copy=$scratch/unproved
+    copy_repository "$copy"
+    sed -i 's/^fn main() {$/fn main() { unknown();/' "$copy/crates/gateway/src/main.rt"
+    "$copy/run" gateway >"$scratch/got" 2>"$scratch/said" </dev/null
+    [ $? = 1 ] && [ ! -s "$scratch/got" ] && head -n 3 "$scratch/said" | grep -q 'main.rt.*error.*unknown'
+    judge $? './run says why a program is not proved, and does not run it'
+    rm -rf "$copy"
+}
+
+# The first command of the README prints what the README says.
+run_as_printed() {
+    sed -n '/^## Two commands/,$s/^    //p' "$root/README.md" | head -n 4 >"$scratch/printed"
+    (cd "$root" && timeout "$limit" bash -c "$(head -n 1 "$scratch/printed")" </dev/null 2>&1) | tr -d '\r' | cmp -s <(tail -n 3 "$scratch/printed") -
+    judge $? 'the first command of the README prints what it says'
+}
+
 compare_run() {
+    # what is proved already is looked at once, so that nothing is new afterwards
+    "$root/run" gateway --help >/dev/null 2>&1
+    "$root/run" calls --help >/dev/null 2>&1
     status_of_itself
     status_is_heard
     status_of_gateway
     status_of_calls
     run_from_anywhere
+    run_as_printed
     run_unwritable
+    run_unproved
     run_at_once "$rounds"
     rm -rf "$scratch/messages"
 }
