@@ -1,6 +1,10 @@
 // Bytes out: a text, or the first bytes of a run.
 use libc::STDERR_FILENO;
 use libc::STDOUT_FILENO;
+ghost use Prim.Native.Nat.{_<_};
+ghost use mathlib.Core.Bool.{false};
+ghost use mathlib.Core.Path.{_≡_};
+ghost use lib.ListN.{length};
 
 // Writes a text to standard output, and answers whether that went well; where it did not, says so on standard error, with
 // the words given in front.
@@ -14,7 +18,9 @@ pub fn write_text(what: &[u8], text: &[u8]) -> bool {
 
 // Writes the first bytes of a run to standard output in the same way, as many as stand before a place; none, and false,
 // where the run has not as many.
-pub fn write_out(what: &[u8], out: &[u8], at: usize) -> bool {
+pub fn write_out(what: &[u8], out: &[u8], at: usize) -> bool
+    ensures { λ r. ⌜ (length (now (out .entry)) < at → r ≡ false) ⌝ }
+{
     if out.len() < at {
         return false;
     }
