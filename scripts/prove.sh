@@ -6,7 +6,7 @@ programs=(gateway calls)
 # Takes the lock of this repository, and sets `lock`, its descriptor: what rt keeps in target/ is not made for two at once. It
 # is held while something is proved or copied from target/, and not while a program runs.
 hold() { # CALLER
-    command -v flock >/dev/null || { echo "$1: flock is missing (Debian's package util-linux)" >&2; return 1; }
+    command -v flock >/dev/null && command -v setsid >/dev/null || { echo "$1: flock or setsid is missing (Debian's package util-linux)" >&2; return 1; }
     exec {lock}<"$root/crates.txt" || return 1
     flock -w 5 "$lock" && return
     echo "$1: waiting for another call that is proving .." >&2

@@ -5,15 +5,12 @@ use crate::reply::put_last;
 use crate::reply::serve_lines;
 use libc::STDIN_FILENO;
 use programs::output::write_out;
-ghost use Prim.Native.Nat.{_<_};
-ghost use mathlib.Core.Bool.{false};
-ghost use mathlib.Core.Path.{_≡_};
-ghost use lib.ListN.{length};
+ghost use Rattle.programs.specs.Output.{ShortTold};
 
 // Writes the first bytes of a run, as many as stand before a place, and answers whether that went well; where it did
 // not, says so on standard error.
 fn flush(out: &[u8], at: usize) -> bool
-    ensures { λ r. ⌜ (length (now (out .entry)) < at → r ≡ false) ⌝ }
+    ensures { λ r. ⌜ ShortTold (now (out .entry)) at r ⌝ }
 {
     write_out(b"calls: write", out, at)
 }
