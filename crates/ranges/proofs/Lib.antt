@@ -7,7 +7,8 @@
 -- Sides: of the first number past a range and of the range test.
 -- Standings: how two ranges stand to each other.
 -- Prefixes: which answer a prefix has.
--- Blocks: the largest aligned block, and the search by doubling.
+-- Blocks: the largest aligned block.
+-- Zeros: what a machine's counts of zeros say, once for every word width; the largest aligned block by them.
 -- Expansion: the prefixes of a range, one law for an empty one and one for its first block.
 -- Passes: counting and writing the prefixes.
 -- RangeFaults: which refusal a range meets, and the whole answer.
@@ -24,6 +25,7 @@ pub mod Sides
 pub mod Standings
 pub mod Prefixes
 pub mod Blocks
+pub mod Zeros
 pub mod Expansion
 pub mod Passes
 pub mod RangeFaults

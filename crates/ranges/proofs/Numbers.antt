@@ -8,7 +8,7 @@
 --     count-more, count-le             one number more; never more than n (`Counting.antt` has more)
 --     least-is, least-none             the least that passes; n where none does
 --     least-hit, least-under, least-upto, least-le    it passes; those under it fail; it is at most each that passes, and at most n
---     greatest-is, greatest-holds      the greatest that passes; what it is where one passes
+--     greatest-holds                   the greatest passes, where one does, and is at least as great
 --     all-same, least-same, greatest-same   two tests that answer alike below n
 --     tab-length, tab-at               the list of a function's values
 --     same-list-refl, same-list-equal  a list is the same as itself; two that are the same are equal
@@ -199,15 +199,6 @@ module _ (P : ℕ → Bool) where
 
 -- ---- greatest
 module _ (P : ℕ → Bool) where
-  pub greatest-is : (n j : ℕ) → j < n → P j ≡ true → ((k : ℕ) → j < k → k < n → P k ≡ false) → greatest n P ≡ j
-  unfolding greatest
-  greatest-is zero j lt passes fail = absurd (omega arith)
-  greatest-is (suc n) j lt passes fail =
-      ⊎-elim
-      (λ e. rw (subst (λ m. P m ≡ true) e passes) (sym e))
-      (λ l. rw (fail n l (omega arith)) (greatest-is n j l passes (λ k a b. fail k a (omega arith))))
-      (eq-or-lt-of-le (le-of-suc-le-suc lt))
-
   -- where some number below n passes, the greatest is one that passes, at least as great
   pub greatest-holds : (n k : ℕ) → k < n → P k ≡ true → (P (greatest n P) ≡ true) × (k ≤ greatest n P) × (greatest n P < n)
   unfolding greatest

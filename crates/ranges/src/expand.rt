@@ -11,26 +11,19 @@ ghost use Prim.Native.Nat.{_*_, _^_, _≤_};
 ghost use lib.ListN.{length};
 ghost use Rattle.ranges.specs.Blocks.{Ranged, blockOf, prefixesOf, rangeFault, expandOf, written, runAfter};
 
-// Gives the exponent t of the largest aligned block of 2^t numbers that starts at low and stays in low to high,
-// found by doubling.
+// Gives the exponent t of the largest aligned block of 2^t numbers that starts at low and stays in low to high: the
+// smaller of how far low is aligned, its trailing zeros, and of the largest power of two within what is left, 63 less
+// its leading zeros. Both count in 64 bits: up to 2^32 numbers are left, and 0 is aligned to every power.
 fn largest_block(width: u32, low: u64, high: u64) -> u32
     requires { ⌜ Ranged width low high ⌝ }
     ensures { λ r. ⌜ r ≡ blockOf width low high ⌝ }
 {
-    let mut t: u32 = 0;
-    let mut size: u64 = 1;
-    while t < width {
-        let twice = size * 2;
-        if low & (twice - 1) != 0 {
-            return t;
-        }
-        if high < low + (twice - 1) {
-            return t;
-        }
-        t += 1;
-        size = twice;
+    let aligned = u64::trailing_zeros(low);
+    let within = 63 - u64::leading_zeros(high - low + 1);
+    if within < aligned {
+        return within;
     }
-    t
+    aligned
 }
 
 // Gives how many numbers a block of exponent t has, for t of 0 to 32.
