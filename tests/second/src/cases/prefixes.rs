@@ -87,6 +87,43 @@ fn small_widths(out: &mut Lines) {
     }
 }
 
+/// The smallest width that holds this number.
+fn bits_of(number: u32) -> u32 {
+    (1..32).find(|width| number <= top_of(*width)).unwrap_or(32)
+}
+
+/// 0 and every power of two, each also one more.
+fn lows() -> Vec<u32> {
+    let mut lows: Vec<u32> = (0..32).map(|a| 1 << a).chain([0]).flat_map(|low| [low, low + 1]).collect();
+    lows.sort();
+    lows.dedup();
+    lows
+}
+
+/// Every power of two up to 2^32, one less and one more, as far as 32 bits hold them.
+fn highs() -> Vec<u32> {
+    let near = |b: u32| [(1u64 << b) - 1, 1 << b, (1 << b) + 1];
+    let mut highs: Vec<u32> =
+        (0..=32).flat_map(near).filter(|high| *high <= TOP as u64).map(|high| high as u32).collect();
+    highs.sort();
+    highs.dedup();
+    highs
+}
+
+/// Where counts of zeros change by one: from each of those lows to each of those highs, also where low > high, at width
+/// 32 and at the smallest width that holds high.
+fn around_powers(out: &mut Lines) {
+    for low in lows() {
+        for high in highs() {
+            let length = if low <= high { 2 * pairs_of(low, high, 32).len() + 1 } else { 4 };
+            out.r2p(low, high, 32, &lent(length));
+            if bits_of(high) < 32 {
+                out.r2p(low, high, bits_of(high), &lent(length));
+            }
+        }
+    }
+}
+
 /// 9 comes first: with a fine call else, with one that 10 or 11 would refuse, and with no room.
 fn bad_widths(out: &mut Lines) {
     for width in BAD_WIDTHS {
@@ -140,6 +177,7 @@ pub fn edges(out: &mut Lines) {
     marked(out);
     ends_of_all_widths(out);
     small_widths(out);
+    around_powers(out);
     bad_widths(out);
     small_prefixes(out);
     prefixes_of_all_widths(out);

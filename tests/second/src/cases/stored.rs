@@ -216,6 +216,19 @@ fn widths(out: &mut Lines) {
     }
 }
 
+/// 02, W3: 0 is aligned to every power; 2^31 and 2^32 numbers left, one fewer and one more; the same from 1 on.
+fn counts_of_zeros(out: &mut Lines) {
+    let half = 1 << 31;
+    for low in [0, 1, half, half + 1] {
+        for high in [half - 1, half, half + 1, TOP - 1, TOP] {
+            out.r2p(low, high, 32, &lent(125));
+        }
+    }
+    for width in 1..=31 {
+        out.r2p(0, (1 << width) - 1, width, &lent(2));
+    }
+}
+
 /// Words that are none, also in capitals and with a byte more; bytes beside the digits; lengths that are not held, and
 /// a length and a table's number too large by one.
 const FAULTY: [&[u8]; 19] = [
@@ -279,6 +292,7 @@ pub fn lines(out: &mut Lines) {
     broken_ends(out);
     turned_ends(out);
     widths(out);
+    counts_of_zeros(out);
     limits(out);
     faults(out);
 }
