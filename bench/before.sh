@@ -3,7 +3,7 @@
 # uses here, out, flags, machine, archive, before, say, die, need, proved, machine_named, code_named and load_named.
 # With BENCH_ALWAYS=1 in the environment what has the same code is timed too, and nothing is written: this tests the bench itself.
 
-compared=(lookup build plain_scan check audit independence report)
+compared=(lookup build plain_scan check audit independence report range_to_prefixes)
 heading='## Against the commit before'
 how='copy target/staticlib/libinterface.a aside at the commit before, once `rt staticlib interface` has written it'
 
@@ -36,7 +36,7 @@ one_object() { # ARCHIVE NAME: target/bench/NAME.o, NAME.code
 place() { # BYTES
     local side offsets=''
     printf '.text\n.balign 4096\n.skip %s, 0xcc\n.section .note.GNU-stack,"",@progbits\n' "$1" | cc -c -x assembler - -o "$out/pad.o"
-    cc $flags -falign-functions=64 "$here"/src/{before,lists}.c "$out/pad.o" "$out/before.o" "$out/pad.o" "$out/new.o" -o "$out/before"
+    cc $flags -falign-functions=64 "$here"/src/{before,lists,ranges}.c "$out/pad.o" "$out/before.o" "$out/pad.o" "$out/new.o" -o "$out/before"
     for side in before_ ''; do
         offsets+=" $(((0x$(nm "$out/before" | sed -n "s/ T ${side}cuy_lookup\$//p") - $1) % 4096))"
     done
@@ -84,7 +84,7 @@ Written by \`bench/run --before FILE\`, in a run of its own: time of the new cod
 - Method: the machine code of each function is compared first, bytes and relocations, with all that it reaches in its archive. Where it is other code, both
   archives are linked into one program and take turns of at least 2 ms of processor time, 31 each; their ratio is the median over the pairs of turns. The
   program is linked four times, with 16, 32, 48 and 64 bytes between a page's start and the code of each archive; new over before is the mean of the four
-  ratios, least and most stand beside it. Each side looks up in the table that it built itself; every table and answer of both is compared first.
+  ratios, least and most stand beside it. Each side looks up in the table that it built itself; every table, answer and prefix of both is compared first.
 - How far to trust it: the same code on both sides, on one of them 16, 32 or 48 bytes further on, came out in this way at 0.99 to 1.01 for lookup, 0.98 to 1.04
   for build, 0.95 to 1.06 for plain_scan, audit and report, and 0.99 to 1.34 for check and independence, whose loops are a few instructions long. (Measured
   once, when this bench was written, on two processors under load.)

@@ -1,12 +1,15 @@
 # Turns the lines of the benches into the tables and the paragraph of RESULTS.md: ratios first, then times. In a line of words:
 #   build CHARACTER n d b PROVED PLAIN SORTED                                     nanoseconds of one build
 #   lookup CHARACTER n d b TESTS HITS PROVED RUST C SCAN C_SCAN ACL_MANY ACL_ONE   nanoseconds of one lookup; - where not measured
+#   prefixes CHARACTER RANGES WIDTH PREFIXES PROVED PLAIN                         nanoseconds of one range
 #   gateway RULES HEADERS BYTES I_PROVED I_PLAIN T_PROVED T_PLAIN                 instructions, seconds
 #   code FUNCTION WORD                                                            same, other, new or gone against the commit before
-#   before FUNCTION CHARACTER n d b RATIO BEFORE                                  nanoseconds of one call, a line for each placement
+#   before FUNCTION CHARACTER n d b RATIO BEFORE                                  nanoseconds of one call, a line for each placement; of
+#                                                                                 range_to_prefixes RANGES WIDTH PREFIXES in the place of n d b
 function ratio(a, b) { return b == "-" || b == "" ? "-" : a / b >= 100 ? grouped(a / b) : sprintf(a / b < 0.095 ? "%.3f" : "%.2f", a / b) }
 function per_second(ns) { return ns == "-" || ns == "" ? "-" : sprintf(1000 / ns < 1 ? "%.3f" : "%.2f", 1000 / ns) }
 function micro(ns) { return sprintf(ns < 1e5 ? "%.1f" : "%.0f", ns / 1000) }
+function nano(ns) { return sprintf(ns < 100 ? "%.1f" : "%.0f", ns) }
 function spoken(character) { gsub("_", " ", character); return character }
 
 $1 == "acl" { acl = $2 " " $3 }
@@ -14,6 +17,7 @@ $1 == "build" { builds[++nb] = $0; if ($2 == "access_list" && $3 == 1024) plain_
 $1 == "lookup" && $2 != "fields" && $2 != "partitions" { looks[++nl] = $0 }
 $1 == "lookup" && $2 == "fields" { fields[++nf] = $0 }
 $1 == "lookup" && $2 == "partitions" { parts[++np] = $0 }
+$1 == "prefixes" { ranges[++ng] = $0 }
 $1 == "gateway" { gateway = $0 }
 $1 == "code" { code[$2] = $3; codes[++nc] = $2 }
 $1 == "before" {
@@ -57,14 +61,32 @@ function grouped(x, digits,    t) {
 # A time with its unit.
 function timed(ns) { return ns < 1000 ? sprintf("%.0f ns", ns) : micro(ns) " µs" }
 
-# Says whether an aim for a function holds on every list, by the mean over the placements.
-function aim(name, words, limit,    k, w, most, where) {
+# What a row of the commit before is called: by rules and fields, or by the width of ranges.
+function before_name(w) {
+    return w[1] == "range_to_prefixes" ? sprintf("`%s_%d_bits`", w[1], w[4]) : sprintf("`%s_%d_rules_%d_fields`", w[1], w[3], w[4])
+}
+# The mean over the placements, with its least and its most, and the time before.
+function before_figures(row) { return sprintf("**%.2f** | %.2f | %.2f | %s", ratios[row] / turns[row], low[row], high[row], timed(earlier[row] / turns[row])) }
+
+# Prints the rows that are of ranges (1) or of lists (0), in the order asked for, if there are any.
+function before_table(columns, of_ranges,    i, k, w, head) {
+    for (i = 1; i <= m; i++) for (k = 1; k <= nr; k++) {
+        split(rows[k], w, " ")
+        if (w[1] != names[i] || (w[1] == "range_to_prefixes") != of_ranges) continue
+        if (!head++) printf "| bench | %s | new over before | least | most | before |\n|---|---|--:|--:|--:|--:|--:|\n", columns
+        printf "| %s | %s | %s | %s |\n", before_name(w), spoken(w[2]), of_ranges ? grouped(w[5] / w[3], 1) : grouped(w[5]), before_figures(rows[k])
+    }
+    if (head) print ""
+}
+
+# Says whether an aim for a function holds on every list, or on those of one character, by the mean over the placements.
+function aim(name, words, limit, character,    k, w, most, where) {
     if (index(" " asked " ", " " name " ") == 0) return
     for (k = 1; k <= nr; k++) {
         split(rows[k], w, " ")
-        if (w[1] == name && ratios[rows[k]] / turns[rows[k]] > most) {
+        if (w[1] == name && (character == "" || w[2] == character) && ratios[rows[k]] / turns[rows[k]] > most) {
             most = ratios[rows[k]] / turns[rows[k]]
-            where = sprintf("`%s_%d_rules_%d_fields`, %s", name, w[3], w[4], spoken(w[2]))
+            where = before_name(w) ", " spoken(w[2])
         }
     }
     printf "- Aim: %s at most %.2f. ", words, limit
@@ -78,18 +100,13 @@ END {
         print "|---|---|"
         for (k = 1; k <= nc; k++) printf "| `%s` | %s |\n", codes[k], code[codes[k]] == "same" || code[codes[k]] == "other" ? code[codes[k]] " code" : code[codes[k]] == "new" ? "not there before" : "not there now"
         print ""
-        if (nr) {
-            print "| bench | list | partitions | new over before | least | most | before |"
-            print "|---|---|--:|--:|--:|--:|--:|"
-            m = split(asked, names, " ")
-            for (i = 1; i <= m; i++) for (k = 1; k <= nr; k++) {
-                row = rows[k]; split(row, w, " ")
-                if (w[1] == names[i]) printf "| `%s_%d_rules_%d_fields` | %s | %s | **%.2f** | %.2f | %.2f | %s |\n", w[1], w[3], w[4], spoken(w[2]), grouped(w[5]), ratios[row] / turns[row], low[row], high[row], timed(earlier[row] / turns[row])
-            }
-            print ""
-        }
+        m = split(asked, names, " ")
+        before_table("list | partitions", 0)
+        before_table("ranges | prefixes a range", 1)
         aim("lookup", "lookup (n ≥ 128)", 1.05)
         aim("build", "build", 1.10)
+        aim("range_to_prefixes", "range_to_prefixes of 1 to 4294967294", 0.30, "1_to_4294967294")
+        aim("range_to_prefixes", "range_to_prefixes of each", 1.05)
     }
     if (nb) {
         print "## Build\n"
@@ -125,6 +142,18 @@ END {
         printf "%.0f ns with %d partition to %s ns with %s. The scan grows with n alone and knows no partitions: ", pa[8], pa[5], grouped(pz[8]), grouped(pz[5])
         if (crossing != "") printf "on these layers of 1,024 rules the lookup is the\nfaster one up to %s partitions at least, and the scan is with many more.\n", grouped(crossing)
         else print "on these layers of 1,024 rules\nit is the faster one."
+        print ""
+    }
+    if (ng) {
+        print "## Prefixes\n"
+        print "Time of the proved `cuy_range_to_prefixes` over that of plain C with `__builtin_ctzll` and `__builtin_clzll`, which also counts before it writes;"
+        print "nanoseconds of one range. Aim: at most 1.5 on each.\n"
+        print "| bench | ranges | prefixes a range | over C | proved | C |"
+        print "|---|---|--:|--:|--:|--:|"
+        for (k = 1; k <= ng; k++) {
+            split(ranges[k], w, " ")
+            printf "| `prefixes_%d_bits` | %s | %s | **%s** | %s | %s |\n", w[4], spoken(w[2]), grouped(w[5] / w[3], 1), ratio(w[6], w[7]), nano(w[6]), nano(w[7])
+        }
         print ""
     }
     if (gateway) {

@@ -1,8 +1,9 @@
 // Times the functions of the new archive against those of the commit before, in one program. Each side builds its own table and looks up
-// in it. On every list all answers and tables are compared before anything is timed. The command's words name the functions to time;
-// prints one line of words for each of them and each list.
+// in it. On every list all answers and tables are compared before anything is timed, and so are the prefixes of all ranges. The command's
+// words name the functions to time; prints one line of words for each of them and each list, or each kind of ranges.
 #include "clock.h"
 #include "lists.h"
+#include "ranges.h"
 #include "sides.h"
 #include <stdio.h>
 #include <stdlib.h>
@@ -16,6 +17,8 @@ static _Alignas(4096) uint16_t tables[2][LONGEST];
 static uint64_t answers[2][HEADERS][MOST_ANSWERED];
 static struct lent lent[2];
 static size_t b;
+static struct ranges ranges;
+static uint32_t runs[2][MOST_NUMBERS];
 static size_t kept; // which answers of a pass are kept: all bits for each one; 0 while timing, when each is written over the one before
 
 // Each of these is one pass of a side over what is counted; both sides go through the same machine code here.
@@ -26,6 +29,7 @@ static void pass_plain_scan(int k) { for (size_t i = 0; i < SCANS; i++) sides[k]
 static void pass_check(int k) { sides[k].check(&lent[k], answers[k][0]); }
 static void pass_audit(int k) { sides[k].audit(&lent[k], answers[k][0]); }
 static void pass_independence(int k) { sides[k].independence(&lent[k], answers[k][0]); }
+static void pass_range_to_prefixes(int k) { for (size_t i = 0; i < ranges.count; i++) sides[k].range_to_prefixes(ranges.width, ranges.each[i], runs[k], answers[k][0]); }
 static void pass_report(int k) { for (size_t i = 0; i < b; i++) sides[k].report(&lent[k], i, answers[k][i & kept]); }
 
 // What can be timed, and how often a pass does it (0: once a partition). The build comes first, since the others read its table.
@@ -37,6 +41,8 @@ static struct kind {
 } kinds[] = {{"build", pass_build, 1, 0}, {"lookup", pass_lookup, HEADERS, 0}, {"plain_scan", pass_plain_scan, SCANS, 0}, {"check", pass_check, 1, 0},
              {"audit", pass_audit, 1, 0}, {"independence", pass_independence, 1, 0}, {"report", pass_report, 0, 0}};
 enum { KINDS = sizeof kinds / sizeof *kinds };
+// What has ranges in the place of a list.
+static struct kind of_ranges = {"range_to_prefixes", pass_range_to_prefixes, 0, 0};
 
 static pass_of *volatile timed;
 static void pass_before(void) { timed(BEFORE); }
@@ -107,17 +113,42 @@ static void measure(const char *character, struct draw *from, size_t m) {
     }
 }
 
+// Stops where the two sides do not write the same prefixes of each range of a kind, then times them if that is wanted. Prints: function,
+// character, how many ranges, their width, how many prefixes, and what `time_both` prints.
+static void measure_ranges(int kind) {
+    size_t all = 0;
+    ranges_of(kind, &ranges);
+    for (size_t i = 0; i < ranges.count; i++) {
+        memset(answers[BEFORE][0], 0, sizeof answers[BEFORE][0]), memset(answers[NEW][0], 0, sizeof answers[NEW][0]);
+        memset(runs, 255, sizeof runs);
+        uint32_t refused = 0;
+        for (int k = 0; k < 2; k++) refused |= sides[k].range_to_prefixes(ranges.width, ranges.each[i], runs[k], answers[k][0]);
+        if (refused || memcmp(runs[BEFORE], runs[NEW], sizeof runs[NEW]) != 0 || memcmp(answers[BEFORE][0], answers[NEW][0], ALIKE * sizeof(uint64_t)) != 0) {
+            fprintf(stderr, "bench: range_to_prefixes: the two sides answer differently, or refuse, on %u to %u of width %u\n", ranges.each[i].low, ranges.each[i].high, ranges.width);
+            exit(1);
+        }
+        all += answers[NEW][0][3];
+    }
+    if (!of_ranges.wanted) return;
+    of_ranges.steps = ranges.count;
+    printf("%s %s %zu %u %zu", of_ranges.name, ranges.character, ranges.count, ranges.width, all);
+    time_both(&of_ranges);
+}
+
 int main(int count, char **words) {
     static const size_t sizes[] = {128, 512, 1024};
     struct draw from = {SEED};
-    for (int i = 1; i < count; i++)
+    for (int i = 1; i < count; i++) {
         for (size_t k = 0; k < KINDS; k++)
             if (strcmp(words[i], kinds[k].name) == 0) kinds[k].wanted = 1;
+        if (strcmp(words[i], of_ranges.name) == 0) of_ranges.wanted = 1;
+    }
     // Build and lookup at every size, the others at the least and the greatest, twins and nested by the build alone.
     for (size_t k = 0; k < 3; k++) points(&list, &from, sizes[k], 5), measure("points", &from, k == 1 ? 2 : KINDS);
     for (size_t k = 0; k < 3; k++) access_list(&list, &from, sizes[k]), measure("access_list", &from, k == 1 ? 2 : KINDS);
     for (size_t k = 0; k < 3; k++) prefixes(&list, &from, sizes[k]), measure("prefixes", &from, k == 1 ? 2 : KINDS);
     twins(&list, 1024, 8), measure("twins", &from, 1);
     nested(&list, 1024, 8), measure("nested", &from, 1);
+    for (int kind = 0; kind < RANGE_KINDS; kind++) measure_ranges(kind);
     return 0;
 }

@@ -22,4 +22,8 @@ struct plain_answer plain_lookup(size_t d, const uint32_t *list, size_t length, 
 
 // The first match by a loop over the rules; the list is taken to be sound, and is not checked.
 int32_t plain_scan(size_t n, size_t d, const uint32_t *list, const uint32_t *header);
+
+// Writes the prefixes of a range, two numbers each, and gives how many, or minus the refusal; it counts them before it writes any.
+typedef int prefixes_of(uint32_t width, uint32_t low, uint32_t high, uint32_t *run, size_t run_length);
+prefixes_of plain_prefixes;
 #endif

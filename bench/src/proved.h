@@ -21,4 +21,10 @@ static inline int32_t proved_scan(size_t d, const uint32_t *list, size_t length,
     cuy_plain_scan(d, list, length, header, answer);
     return answer[3] ? (int32_t)answer[4] : -1;
 }
+
+static inline int proved_prefixes(uint32_t width, uint32_t low, uint32_t high, uint32_t *run, size_t run_length) {
+    uint64_t answer[4];
+    uint32_t refusal = cuy_range_to_prefixes(width, low, high, run, run_length, answer);
+    return refusal ? -(int)refusal : (int)answer[3];
+}
 #endif

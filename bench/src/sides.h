@@ -3,6 +3,7 @@
 #ifndef SIDES_H
 #define SIDES_H
 #include "../../include/cuyenalot.h"
+#include "ranges.h"
 
 // What both sides must answer alike: the first so many numbers of each answer, and whether every number of the tables.
 enum { ALIKE = 6, TABLES_ALIKE = 1, MOST_ANSWERED = 8 };
@@ -24,6 +25,7 @@ struct side {
     uint32_t (*lookup)(const struct lent *l, const uint32_t *header, uint64_t *answer);
     uint32_t (*audit)(const struct lent *l, uint64_t *answer);
     uint32_t (*report)(const struct lent *l, size_t partition, uint64_t *answer);
+    uint32_t (*range_to_prefixes)(uint32_t width, struct range r, uint32_t *run, uint64_t *answer);
 };
 
 // The side before. Where the header has changed, the line below says what the signature was.
@@ -34,6 +36,7 @@ extern __typeof__(cuy_build) before_cuy_build;
 extern __typeof__(cuy_lookup) before_cuy_lookup;
 extern __typeof__(cuy_audit) before_cuy_audit;
 extern __typeof__(cuy_report) before_cuy_report;
+extern __typeof__(cuy_range_to_prefixes) before_cuy_range_to_prefixes;
 
 static size_t before_table_length(size_t n, size_t d) { return 4 + 2 * n + 2 * n * d; }
 static uint32_t before_check(const struct lent *l, uint64_t *a) { return before_cuy_check(l->d, l->list, l->length, a); }
@@ -43,6 +46,7 @@ static uint32_t before_build(const struct lent *l, uint64_t *a) { return before_
 static uint32_t before_lookup(const struct lent *l, const uint32_t *h, uint64_t *a) { return before_cuy_lookup(l->d, l->list, l->length, l->table, l->table_length, h, a); }
 static uint32_t before_audit(const struct lent *l, uint64_t *a) { return before_cuy_audit(l->d, l->list, l->length, l->table, l->table_length, a); }
 static uint32_t before_report(const struct lent *l, size_t k, uint64_t *a) { return before_cuy_report(l->d, l->list, l->length, l->table, l->table_length, k, a); }
+static uint32_t before_range_to_prefixes(uint32_t width, struct range r, uint32_t *run, uint64_t *a) { return before_cuy_range_to_prefixes(width, r.low, r.high, run, MOST_NUMBERS, a); }
 
 // The new side, as the header has it.
 static size_t new_table_length(size_t n, size_t d) { return CUY_TABLE_LENGTH(n, d); }
@@ -53,9 +57,10 @@ static uint32_t new_build(const struct lent *l, uint64_t *a) { return cuy_build(
 static uint32_t new_lookup(const struct lent *l, const uint32_t *h, uint64_t *a) { return cuy_lookup(l->d, l->list, l->length, l->table, l->table_length, h, a); }
 static uint32_t new_audit(const struct lent *l, uint64_t *a) { return cuy_audit(l->d, l->list, l->length, l->table, l->table_length, a); }
 static uint32_t new_report(const struct lent *l, size_t k, uint64_t *a) { return cuy_report(l->d, l->list, l->length, l->table, l->table_length, k, a); }
+static uint32_t new_range_to_prefixes(uint32_t width, struct range r, uint32_t *run, uint64_t *a) { return cuy_range_to_prefixes(width, r.low, r.high, run, MOST_NUMBERS, a); }
 
 enum { BEFORE, NEW };
 static const struct side sides[] = {
-    {before_table_length, before_check, before_plain_scan, before_independence, before_build, before_lookup, before_audit, before_report},
-    {new_table_length, new_check, new_plain_scan, new_independence, new_build, new_lookup, new_audit, new_report}};
+    {before_table_length, before_check, before_plain_scan, before_independence, before_build, before_lookup, before_audit, before_report, before_range_to_prefixes},
+    {new_table_length, new_check, new_plain_scan, new_independence, new_build, new_lookup, new_audit, new_report, new_range_to_prefixes}};
 #endif
