@@ -12,8 +12,9 @@ ghost use lib.ListN.{length};
 ghost use Rattle.ranges.specs.Blocks.{Ranged, blockOf, prefixesOf, rangeFault, expandOf, written, runAfter};
 
 // Gives the exponent t of the largest aligned block of 2^t numbers that starts at low and stays in low to high: the
-// smaller of how far low is aligned, its trailing zeros, and of the largest power of two within what is left, 63 less
-// its leading zeros. Both count in 64 bits: up to 2^32 numbers are left, and 0 is aligned to every power.
+// smaller of two counts. Low is aligned to as many bits as it has trailing zeros, 0 to all 64; the largest power of two
+// within the numbers that are left is 63 less the leading zeros of how many they are. There may be 2^32 of them, so
+// both are counted in 64 bits.
 fn largest_block(width: u32, low: u64, high: u64) -> u32
     requires { ⌜ Ranged width low high ⌝ }
     ensures { λ r. ⌜ r ≡ blockOf width low high ⌝ }
