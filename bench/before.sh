@@ -86,8 +86,8 @@ Written by \`bench/run --before FILE\`, in a run of its own: time of the new cod
   program is linked four times, with 16, 32, 48 and 64 bytes between a page's start and the code of each archive; new over before is the mean of the four
   ratios, least and most stand beside it. Each side looks up in the table that it built itself; every table, answer and prefix of both is compared first.
 - How far to trust it: the same code on both sides, on one of them 16, 32 or 48 bytes further on, came out in this way at 0.99 to 1.01 for lookup, 0.98 to 1.04
-  for build, 0.95 to 1.06 for plain_scan, audit and report, and 0.99 to 1.34 for check and independence, whose loops are a few instructions long. (Measured
-  once, when this bench was written, on two processors under load.)
+  for build, 0.95 to 1.06 for plain_scan, audit and report, and 0.99 to 1.34 for check and independence, whose loops are a few instructions long (measured
+  once, when this bench was written, on two processors under load); range_to_prefixes, at the same place on both sides, at 0.98 to 1.01.
 
 TEXT
     awk -v asked="$*" -f "$here/tables.awk" "$out/before.lines"
