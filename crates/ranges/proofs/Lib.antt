@@ -8,12 +8,12 @@
 -- Standings: how two ranges stand to each other.
 -- Prefixes: which answer a prefix has.
 -- Blocks: the largest aligned block.
--- Zeros: what a machine's counts of zeros say, once for every word width; the largest aligned block by them.
 -- Expansion: the prefixes of a range, one law for an empty one and one for its first block.
 -- Passes: counting and writing the prefixes.
 -- RangeFaults: which refusal a range meets, and the whole answer.
 -- Cover: what the prefixes of a range are: each number in exactly one, each block the largest.
 -- Few: how many prefixes a range has, once for every width.
+-- Zeros: what a machine's counts of zeros say, once for every word width; the largest aligned block by them.
 -- Theorems: the headline statements, T1 to T5.
 -- Determined: any two results that a contract allows are equal.
 pub mod Numbers
@@ -25,11 +25,11 @@ pub mod Sides
 pub mod Standings
 pub mod Prefixes
 pub mod Blocks
-pub mod Zeros
 pub mod Expansion
 pub mod Passes
 pub mod RangeFaults
 pub mod Cover
 pub mod Few
+pub mod Zeros
 pub mod Theorems
 pub mod Determined
