@@ -20,6 +20,8 @@ use Rattle.lists.proofs.check.check_list.Kinds as check-list-kinds
 use Rattle.lists.proofs.check.check_list.Reads as check-list
 use Rattle.lists.proofs.scan.rule_fits.Kinds as rule-fits-kinds
 use Rattle.lists.proofs.scan.rule_fits.Reads as rule-fits
+use Rattle.lists.proofs.edge.rule_edge.Kinds as rule-edge-kinds
+use Rattle.lists.proofs.edge.rule_edge.Reads as rule-edge
 use Rattle.lists.proofs.scan.plain_scan.Kinds as plain-scan-kinds
 use Rattle.lists.proofs.scan.plain_scan.Reads as plain-scan
 use Rattle.lists.proofs.independence.independence.Kinds as independence-kinds
@@ -48,6 +50,9 @@ check-list-one κs a x y e g p q = p ∙ sym q
 
 pub rule-fits-one : OneAnswer 1 rule-fits-kinds.ps rule-fits-kinds.r rule-fits.Learnt
 rule-fits-one κs a x y e g p q = p ∙ sym q
+
+pub rule-edge-one : OneAnswer 1 rule-edge-kinds.ps rule-edge-kinds.r rule-edge.Learnt
+rule-edge-one κs a x y e g p q = p ∙ sym q
 
 pub plain-scan-one : OneAnswer 1 plain-scan-kinds.ps plain-scan-kinds.r plain-scan.Learnt
 plain-scan-one κs a x y e g p q = p ∙ sym q

@@ -1,12 +1,12 @@
 -- Laws of what fits a header (`specs/FirstMatch.antt`, `specs/Scan.antt`): a field, a rule, and which rule is the first.
---     side-read, inside-read                the code's range test of one field
+--     outcome-read                          the outcome of any test of one field, as the code works it out
+--     side-read, inside-read                the same of the range test
 --     match-rule, match-none                the first match, or none, from the rule at which the search for it ends
---     none-listed, rule-listed              whether a rule of the list fits, from the test that leads there
 --     fits-inside, inside-fits              what it means that a rule fits, either way round
 --     fits-same, first-same                 only the first d numbers of a header are read
 -- Assumes nothing.
 use Prim.Native.Nat.{ℕ, _≤_, _<_}
-use mathlib.Core.Bool.{Bool, true, false}
+use mathlib.Core.Bool.{Bool, true}
 use mathlib.Core.List.{List}
 use mathlib.Core.Path.{_≡_, sym, ap, _∙_}
 use lib.ListN.{getD}
@@ -18,14 +18,17 @@ use Rattle.ranges.proofs.Numbers.{all-yes, all-at, all-same, least-same}
 use Rattle.ranges.proofs.Sides.{inside-yes, inside-at}
 use Rattle.lists.specs.Rules.{Rules, fieldsOf, rulesIn, lowOf, endsAt, rangeAt}
 use Rattle.lists.specs.FirstMatch.{sideAt, insideAt, fits, firstMatch}
-use Rattle.lists.specs.Faults.{inList}
-use Rattle.lists.specs.Scan.{fitsIn, matchOf}
+use Rattle.lists.specs.Scan.{matchOf}
 use Rattle.lists.specs.declared.scan.Match.the-variants.{Rule, Nothing}
 
--- the outcome of the test against a range, where a callee said that it is the rule's
+-- the outcome of a test of the number against a range, where a callee said that it is the rule's
+pub outcome-read : {A : Type 0} (test : ℕ → ℕ → ℕ → A) (R : Rules) (h : List ℕ) (i f : ℕ) (g : Range) → g ≡ rangeAt R i f → (s : A)
+    → s ≡ test (g .low) (g .past) (getD h f 0) → s ≡ test (lowOf R i f) (endsAt R i f) (getD h f 0)
+outcome-read test R h i f g is-range s is-s = is-s ∙ ap (λ k. test (k .low) (k .past) (getD h f 0)) is-range
+
 module _ (R : Rules) (h : List ℕ) (i f : ℕ) (g : Range) (is-range : g ≡ rangeAt R i f) where
   pub side-read : (s : Side) → s ≡ sideOf (g .low) (g .past) (getD h f 0) → s ≡ sideAt R h i f
-  side-read s is-side = is-side ∙ ap (λ k. sideOf (k .low) (k .past) (getD h f 0)) is-range
+  side-read = outcome-read sideOf R h i f g is-range
 
   pub inside-read : (s t : Side) → s ≡ sideOf (g .low) (g .past) (getD h f 0) → s ≡ t → isInside t ≡ insideAt R h i f
   inside-read s t is-side is-t = ap isInside (sym is-t ∙ side-read s is-side)
@@ -37,16 +40,6 @@ module _ (R : Rules) (h : List ℕ) (i m : ℕ) (is-first : i ≡ firstMatch R h
 
   pub match-none : m ≤ i → Nothing ≡ matchOf R h
   match-none past = rw (← is-first, ← is-n, le-ltb i m past)
-
--- ---- whether a rule of the list fits: t is a callee's answer whether the list has it
-module _ (R : Rules) (h : List ℕ) (i : ℕ) {t : Bool} (is-t : t ≡ inList R i) where
-  pub none-listed : t ≡ false → false ≡ fitsIn R h i
-  unfolding fitsIn
-  none-listed no-rule = rw (← is-t, no-rule)
-
-  pub rule-listed : t ≡ true → (r : Bool) → r ≡ fits R h i → r ≡ fitsIn R h i
-  unfolding fitsIn
-  rule-listed rule r is-r = rw (← is-t, rule) is-r
 
 -- ---- what it means that a rule fits
 -- low ≤ number, and the number is before the first one past the range

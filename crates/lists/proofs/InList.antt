@@ -2,6 +2,7 @@
 --     in-no-fields, in-many-fields, in-by      as the code tests it: d, and then where the rule's last field ends
 --     Listed, in-told, in-told-by, in-yes      what yes says, and when it is said
 --     listed-rule, shaped-in                   such a rule stands in the list; each rule of a list whose shape stands is one
+--     unlisted, if-listed                      a test of a rule that the list has, as the code works it out
 -- Assumes nothing.
 use Prim.Native.Nat.{ℕ, _≤_, _<_}
 use mathlib.Core.Bool.{Bool, true, false, not}
@@ -82,3 +83,11 @@ module _ (R : Rules) (i : ℕ) where
 
   pub shaped-in : Shaped R → i < rulesIn R → inList R i ≡ true
   shaped-in s rule = in-yes record { some-fields = s .some-fields; few-fields = s .few-fields; rule = rule }
+
+-- ---- a test u of a rule that the list has: t is a callee's answer whether it has the rule, and r what a callee told of the test
+module _ (R : Rules) (i : ℕ) {t : Bool} (is-t : t ≡ inList R i) where
+  pub unlisted : (u : Bool) → t ≡ false → false ≡ inList R i and u
+  unlisted u no-rule = rw (← is-t, no-rule)
+
+  pub if-listed : t ≡ true → {r u : Bool} → r ≡ u → r ≡ inList R i and u
+  if-listed rule is-r = rw (← is-t, rule) is-r

@@ -6,6 +6,7 @@
 -- Voids: of the refusal 4, low > high in a field, in a rule, in a list.
 -- Sound: what a list is that meets none of 1 to 4.
 -- Fitting: of what fits a header.
+-- Edges: of a rule's fields at an end of their ranges.
 -- Meeting: of rules that one header can fit.
 -- Pairs: which pair order independence names.
 -- Answers: what an answer says tells it apart from every other.
@@ -18,6 +19,7 @@ pub mod Faults
 pub mod Voids
 pub mod Sound
 pub mod Fitting
+pub mod Edges
 pub mod Meeting
 pub mod Pairs
 pub mod Answers

@@ -4,14 +4,15 @@
 --     answered-none, answered-more      where the loop begins, and after a turn
 --     answered-all, answered-not        of t = true: all pass; one does not
 --     answered-least, answered-end      of t = false: the least that passes; there is none
+--     answered-one, answered-none-of    of t = false: one passes; none does
 -- Assumes nothing.
 use Prim.Native.Nat.{ℕ, _+_, _≤_, _<_}
 use mathlib.Core.Bool.{Bool, true, false}
 use mathlib.Core.Path.{_≡_, sym, _∙_}
 use native.Mathlib.Omega.{arith}
 use borrow.Author.Count.{below-more}
-use Rattle.ranges.specs.Numbers.{all, least}
-use Rattle.ranges.proofs.Numbers.{all-yes, all-no, least-is, least-none}
+use Rattle.ranges.specs.Numbers.{all, any, least}
+use Rattle.ranges.proofs.Numbers.{all-yes, all-no, any-yes, any-no, least-is, least-none}
 
 pub record Answered (P : ℕ → Bool) (t : Bool) (n j : ℕ) : Type 0 where
   pub within : j ≤ n
@@ -36,3 +37,9 @@ module _ {P : ℕ → Bool} {n j : ℕ} where
 
   pub answered-end : Answered P false n j → n ≤ j → n ≡ least n P
   answered-end told past = sym (least-none P n (λ k lt. told .below k (omega arith)))
+
+  pub answered-one : Answered P false n j → j < n → {r : Bool} → r ≡ P j → r ≡ true → true ≡ any n P
+  answered-one told lt is-r passes = sym (any-yes P n j lt (sym is-r ∙ passes))
+
+  pub answered-none-of : Answered P false n j → n ≤ j → false ≡ any n P
+  answered-none-of told past = sym (any-no P n (λ k lt. told .below k (omega arith)))

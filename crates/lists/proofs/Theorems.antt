@@ -12,8 +12,11 @@
 --                                 of 1 to 4 applies and no such header fits two different rules;
 --         pair-words-iff          (i, j) exactly when none applies, such a header fits both, and no pair before is fitted by one
 --         pair-header             the header of the greater lows fits both; it has eight numbers, of 32 bits where the list's are
+--     W2  edge-iff                a rule has a field at an end exactly when in one of the d fields the number is low or the last number of its range
+--         rule-edge-iff           one rule's test answers yes exactly when d is 1 to 8, the list has the rule, and it has such a field
+--         edge-unread             headers that agree on the first d numbers get the same answer
 --
--- The contracts of `check_list`, `plain_scan`, `rule_fits` and `independence` are equations with the definitions named here, so each
+-- The contracts of `check_list`, `plain_scan`, `rule_fits`, `independence` and `rule_edge` are equations with the definitions named here, so each
 -- statement is one on the function. A header is any list of numbers, but for the two statements of T8 that say otherwise: what is said of
 -- every header holds of eight numbers of 32 bits.
 -- Assumes nothing.
@@ -37,6 +40,7 @@ use Rattle.lists.specs.Check.{checkOf}
 use Rattle.lists.specs.Headers.{headerLength, IsHeader}
 use Rattle.lists.specs.FirstMatch.{fits, firstMatch}
 use Rattle.lists.specs.Scan.{fitsIn, matchOf, scanOf}
+use Rattle.lists.specs.Edges.{edgeOf, edgeIn}
 use Rattle.lists.specs.Independence.{meet, independenceOf}
 use Rattle.lists.specs.declared.scan.Match.the-variants.{Rule, Nothing, Refused as MatchRefused}
 use Rattle.lists.specs.declared.independence.Pair.the-variants.{Independent, Both}
@@ -45,6 +49,7 @@ use Rattle.lists.proofs.Faults.{shaped, shape-few}
 use Rattle.lists.proofs.Voids.{bad, bad-field, ends-4, SoundRule, not-bad}
 use Rattle.lists.proofs.Sound.{Accepted, stands-accepted, accepted-none, shaped-none, sound-answered}
 use Rattle.lists.proofs.Fitting.{Inside, fits-inside, inside-fits, fits-same, first-same}
+use Rattle.lists.proofs.Edges.{AtEdge, edge-at-iff, edge-same}
 use Rattle.lists.proofs.Meeting.{sharedHeader, shared-length, shared-below, fits-meet, meet-fits}
 use Rattle.lists.proofs.Pairs.{WhenMeet, independent-share-iff, pair-share-iff}
 pub use Rattle.lists.proofs.Pairs.{LeastPair}
@@ -262,3 +267,21 @@ pair-header R i j e =
     let i-rule : i < rulesIn R = omega (arith, p .after, p .rule) in
     let fit = shared-fits R (p .accepted) i j i-rule (p .rule) (shared-when R .met i j (p .both)) in
     record { eight = shared-length R i j; first = fit .0; second = fit .1; words = λ words. shared-is-header R words i j }
+
+-- ---- W2
+-- rule i has a field at an end exactly when in some field below d the number is inside its range, and low or the last number of it
+pub edge-iff : (R : Rules) (h : List ℕ) (i : ℕ) → (edgeOf R h i ≡ true) ↔ AtEdge R h i
+edge-iff = edge-at-iff
+
+-- what a yes of `rule_edge` tells, and when it is given
+pub rule-edge-iff : (R : Rules) (h : List ℕ) (i : ℕ) → (edgeIn R h i ≡ true) ↔ (Listed R i × AtEdge R h i)
+unfolding edgeIn
+rule-edge-iff R h i = (
+  λ e. (in-told R i (and-left (inList R i) (edgeOf R h i) e), edge-at-iff R h i .0 (and-right (inList R i) (edgeOf R h i) e)),
+  λ p. rw (in-yes R i (p .0)) (edge-at-iff R h i .1 (p .1)),
+)
+
+-- a header's numbers past d alter nothing
+pub edge-unread : (R : Rules) (h g : List ℕ) → ((f : ℕ) → f < fieldsOf R → getD h f 0 ≡ getD g f 0) → (i : ℕ) → edgeIn R h i ≡ edgeIn R g i
+unfolding edgeIn
+edge-unread R h g agree i = rw (edge-same R h g agree i)

@@ -4,6 +4,7 @@ pub mod Rules
 pub mod Headers
 pub mod FirstMatch
 pub mod Faults
+pub mod Edges
 pub mod Check
 pub mod Scan
 pub mod Independence

@@ -9,10 +9,12 @@
 // rules a list has.
 //
 // What it answers. `check_list` says how many rules a list has. `plain_scan` gives the first rule that fits a header,
-// and `rule_fits` says whether one rule does. `independence` says whether some header fits two rules, and which two
-// come first. All but `rule_fits`, which refuses nothing, first refuse by 1, 2, 3 and 4, in this order (`list_fault`;
-// `shape_fault` gives 1, 2 and 3 alone, for those who do not read the whole list).
+// and `rule_fits` says whether one rule does; `rule_edge` says whether one rule has a field at an end of its range (02,
+// W2). `independence` says whether some header fits two rules, and which two come first. All but `rule_fits` and
+// `rule_edge`, which refuse nothing, first refuse by 1, 2, 3 and 4, in this order (`list_fault`; `shape_fault` gives 1, 2
+// and 3 alone, for those who do not read the whole list).
 pub mod check;
+pub mod edge;
 pub mod independence;
 mod range;
 pub mod scan;

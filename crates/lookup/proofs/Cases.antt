@@ -10,6 +10,7 @@ use mathlib.Core.Path.{_≡_, refl}
 use lib.Dec.{T}
 use Rattle.ranges.specs.Numbers.{_and_, sameList, all, count, least, greatest, tab}
 use Rattle.ranges.specs.Refusals.{Said}
+use Rattle.ranges.specs.Spots.{spotOf}
 use Rattle.ranges.specs.Sides.{endOf, sideOf}
 use Rattle.ranges.specs.Prefixes.{prefixFault, boundsOf, saysBounds}
 use Rattle.ranges.specs.Blocks.{blockFits, blockOf, prefixesFrom, prefixesOf, flat}
@@ -75,5 +76,5 @@ cases =
 
 -- the one statement: every row of the table holds, and in the table of no rules any header at all finds none, with 0 tests (B9)
 pub cases-hold : T (hold cases) × ((h : List ℕ) → lookupOf empty emptyTable h ≡ Nothing 0)
-unfolding cases all count least greatest tab endOf sideOf rulesIn offsetOf lowOf highOf endsAt fits shapeFault standingOf compare fitOf firstFit parts tableLength orderAt startAt fromAt toAt rowOf placeOf ruleAt startOf runFrom runTo tableOf opening openFault runStands stepAt arrivedOf walkFrom visitOf lookupFrom lookupOf prefixesOf prefixesFrom blockOf blockFits prefixFault
+unfolding cases all count least greatest tab endOf spotOf sideOf rulesIn offsetOf lowOf highOf endsAt fits shapeFault standingOf compare fitOf firstFit parts tableLength orderAt startAt fromAt toAt rowOf placeOf ruleAt startOf runFrom runTo tableOf opening openFault runStands stepAt arrivedOf walkFrom visitOf lookupFrom lookupOf prefixesOf prefixesFrom blockOf blockFits prefixFault
 cases-hold = (tt, λ h. refl)

@@ -7,6 +7,8 @@ use denote.Ref.{now}
 use Rattle.ranges.proofs.OneAnswer.{OneAnswer, OneRun}
 use Rattle.ranges.proofs.refusal.refuse.Kinds as refuse-kinds
 use Rattle.ranges.proofs.refusal.refuse.Reads as refuse
+use Rattle.ranges.proofs.spot.spot_of.Kinds as spot-of-kinds
+use Rattle.ranges.proofs.spot.spot_of.Reads as spot-of
 use Rattle.ranges.proofs.side.side_of.Kinds as side-of-kinds
 use Rattle.ranges.proofs.side.side_of.Reads as side-of
 use Rattle.ranges.proofs.side.closed.Kinds as closed-kinds
@@ -26,6 +28,9 @@ use Rattle.ranges.proofs.expand.range_to_prefixes.Reads as range-to-pre
 
 pub refuse-one : OneAnswer 0 refuse-kinds.ps refuse-kinds.r refuse.Learnt
 refuse-one κs a x y e g p q = p ∙ sym q
+
+pub spot-of-one : OneAnswer 0 spot-of-kinds.ps spot-of-kinds.r spot-of.Learnt
+spot-of-one κs a x y e g p q = p ∙ sym q
 
 pub side-of-one : OneAnswer 0 side-of-kinds.ps side-of-kinds.r side-of.Learnt
 side-of-one κs a x y e g p q = p ∙ sym q

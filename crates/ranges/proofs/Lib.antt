@@ -4,6 +4,7 @@
 -- Widths: what shifts and masks do, once for every width.
 -- Answers: what an answer says tells it apart from every other.
 -- OneAnswer: a contract that allows one result alone.
+-- Spots: of the single range test.
 -- Sides: of the first number past a range and of the range test.
 -- Standings: how two ranges stand to each other.
 -- Prefixes: which answer a prefix has.
@@ -21,6 +22,7 @@ pub mod Counting
 pub mod Widths
 pub mod Answers
 pub mod OneAnswer
+pub mod Spots
 pub mod Sides
 pub mod Standings
 pub mod Prefixes

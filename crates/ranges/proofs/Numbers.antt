@@ -5,11 +5,12 @@
 --     or-iff, or-neither               one of them, or neither
 --     picked, not-picked               which way a test went, from the answer that it led to
 --     all-yes, all-at, all-no, all-some     every number below n passes; each then does; one fails; and where not all pass, one fails
+--     any-yes, any-no, any-at          a number below n passes; none does; and where some number does, one
 --     count-more, count-le             one number more; never more than n (`Counting.antt` has more)
 --     least-is, least-none             the least that passes; n where none does
 --     least-hit, least-under, least-upto, least-le    it passes; those under it fail; it is at most each that passes, and at most n
 --     greatest-holds                   the greatest passes, where one does, and is at least as great
---     all-same, least-same, greatest-same   two tests that answer alike below n
+--     all-same, any-same, least-same, greatest-same   two tests that answer alike below n
 --     tab-length, tab-at               the list of a function's values
 --     same-list-refl, same-list-equal  a list is the same as itself; two that are the same are equal
 --     same-list-is                     what a comparison answers
@@ -26,7 +27,7 @@ use borrow.Author.Tests.{lt-ltb, le-ltb, ltb-true, ltb-false, eq-eqb, eqb-true}
 use lib.Dec.{ltb, eqb}
 use lib.ListN.{length, getD, length-append, List·getD-append}
 use lib.Seq.{getD-at}
-use Rattle.ranges.specs.Numbers.{pick, _and_, _or_, bit, all, count, least, greatest, tab, sameList}
+use Rattle.ranges.specs.Numbers.{pick, _and_, _or_, bit, all, any, count, least, greatest, tab, sameList}
 
 -- 0 is not 1: what `cc` proves where two constructors would be equal
 pub never {ℓ} : {A : Type ℓ} → _≡_ {A = ℕ} 0 1 → A
@@ -56,6 +57,10 @@ or-iff false t p q = (λ e. inr (q .0 e), ⊎-elim (λ a. absurd (true-not-false
 pub or-neither : (s t : Bool) → s or t ≡ false → (s ≡ false) × (t ≡ false)
 or-neither true t e = never (cc)
 or-neither false t e = (refl, e)
+
+or-last : (s t : Bool) → t ≡ true → s or t ≡ true
+or-last true t e = refl
+or-last false t e = e
 
 -- ---- which way a test went, from the answer that it led to
 module _ {A : Type 0} (a b v : A) where
@@ -105,6 +110,27 @@ module _ (P : ℕ → Bool) where
       go false p s q under e = (n, omega arith, p)
       go true p false q under e = let at = under q in (at .0, omega (arith, at .1), at .2)
       go true p true q under e = never (cc)
+
+-- ---- any
+module _ (P : ℕ → Bool) where
+  pub any-at : (n : ℕ) → any n P ≡ true → (k : ℕ) × (k < n) × (P k ≡ true)
+  unfolding any
+  any-at zero e = never (cc)
+  any-at (suc n) e = go (any n P) refl (any-at n) e
+    where
+      go : (s : Bool) → any n P ≡ s → (any n P ≡ true → (k : ℕ) × (k < n) × (P k ≡ true)) → s or P n ≡ true → (k : ℕ) × (k < suc n) × (P k ≡ true)
+      go true q under e = let at = under q in (at .0, omega (arith, at .1), at .2)
+      go false q under e = (n, omega arith, e)
+
+  pub any-no : (n : ℕ) → ((k : ℕ) → k < n → P k ≡ false) → any n P ≡ false
+  unfolding any
+  any-no zero none = refl
+  any-no (suc n) none = rw (any-no n (λ k lt. none k (omega arith)), none n (omega arith))
+
+  pub any-yes : (n k : ℕ) → k < n → P k ≡ true → any n P ≡ true
+  unfolding any
+  any-yes zero k lt e = absurd (omega arith)
+  any-yes (suc n) k lt e = below-suc k n lt (λ j. P j ≡ true → any n P or P n ≡ true) (λ l at. rw (any-yes n k l at)) (λ at. or-last (any n P) (P n) at) e
 
 -- ---- count
 module _ (P : ℕ → Bool) where
@@ -220,6 +246,11 @@ module _ (P Q : ℕ → Bool) where
   unfolding all
   all-same zero same = refl
   all-same (suc n) same = rw (all-same n (λ k lt. same k (omega arith)), same n (omega arith))
+
+  pub any-same : (n : ℕ) → ((k : ℕ) → k < n → P k ≡ Q k) → any n P ≡ any n Q
+  unfolding any
+  any-same zero same = refl
+  any-same (suc n) same = rw (any-same n (λ k lt. same k (omega arith)), same n (omega arith))
 
   pub least-same : (n : ℕ) → ((k : ℕ) → k < n → P k ≡ Q k) → least n P ≡ least n Q
   unfolding least

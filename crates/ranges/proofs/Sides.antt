@@ -9,13 +9,14 @@ use Prim.Native.Nat.{ℕ, _≤_, _<_}
 use mathlib.Core.Bool.{Bool, true, false}
 use mathlib.Core.Path.{_≡_, refl, ap}
 use native.Mathlib.Omega.{arith}
-use borrow.Author.Tests.{lt-ltb, le-ltb, le-leb, lt-leb, ltb-true, ltb-false, leb-true, leb-false}
-use lib.Dec.{ltb, leb}
-use Rattle.ranges.specs.Numbers.{pick}
+use borrow.Author.Tests.{lt-ltb, le-ltb}
+use lib.Dec.{ltb}
 use Rattle.ranges.proofs.Numbers.{never}
-use Rattle.ranges.specs.Sides.{endOf, sideOf, meetOf, isInside}
+use Rattle.ranges.specs.Sides.{endOf, sideIn, sideOf, meetOf, isInside}
 use Rattle.ranges.specs.declared.side.Side.{Side}
 use Rattle.ranges.specs.declared.side.Side.the-variants.{Below, Above, Inside}
+use Rattle.ranges.specs.declared.spot.Spot.{Spot}
+use Rattle.ranges.proofs.Spots.{Sits, sits-below, sits-above, sits-both, sits-low, sits-high, sits-between, spot-is, sits}
 
 -- ---- the first number past a range
 module _ (high x : ℕ) where
@@ -32,19 +33,28 @@ module _ (high x : ℕ) where
   high-within lt = omega arith
 
 -- ---- which outcome a number has
+-- a spot inside the range is on its inside
+inside-in : {low past x : ℕ} {s : Spot} → Sits low past x s → low ≤ x → x < past → sideIn s ≡ Inside
+inside-in (sits-below lt) le within = absurd (omega arith)
+inside-in (sits-above le over) le′ within = absurd (omega arith)
+inside-in (sits-both at last) le within = refl
+inside-in (sits-low at more) le within = refl
+inside-in (sits-high over last) le within = refl
+inside-in (sits-between over more) le within = refl
+
 module _ (low past x : ℕ) where
   -- a number less than low is below, whatever past is
   pub side-below : x < low → sideOf low past x ≡ Below
   unfolding sideOf
-  side-below lt = rw (lt-ltb x low lt)
+  side-below lt = ap sideIn (spot-is (sits-below lt))
 
   pub side-above : low ≤ x → past ≤ x → sideOf low past x ≡ Above
   unfolding sideOf
-  side-above le over = rw (le-ltb x low le, le-leb past x over)
+  side-above le over = ap sideIn (spot-is (sits-above le over))
 
   pub side-inside : low ≤ x → x < past → sideOf low past x ≡ Inside
   unfolding sideOf
-  side-inside le within = rw (le-ltb x low le, lt-leb past x within)
+  side-inside = inside-in (sits low past x)
 
 -- ---- what an outcome says of the number
 -- the three outcomes, with the facts that lead to each
@@ -53,15 +63,18 @@ pub data Lies (low past x : ℕ) : Side → Type 0 where
   lies-above : low ≤ x → past ≤ x → Lies low past x Above
   lies-inside : low ≤ x → x < past → Lies low past x Inside
 
+lies-in : {low past x : ℕ} {s : Spot} → Sits low past x s → Lies low past x (sideIn s)
+lies-in (sits-below lt) = lies-below lt
+lies-in (sits-above le over) = lies-above le over
+lies-in (sits-both at last) = lies-inside (omega arith) (omega arith)
+lies-in (sits-low at more) = lies-inside (omega arith) (omega arith)
+lies-in (sits-high over last) = lies-inside (omega arith) (omega arith)
+lies-in (sits-between over more) = lies-inside (omega arith) (omega arith)
+
 module _ (low past x : ℕ) where
   pub lies : Lies low past x (sideOf low past x)
   unfolding sideOf
-  lies = go (ltb x low) (leb past x) refl refl
-    where
-      go : (s t : Bool) → ltb x low ≡ s → leb past x ≡ t → Lies low past x (pick s Below (pick t Above Inside))
-      go true t p q = lies-below (ltb-true x low p)
-      go false true p q = lies-above (ltb-false x low p) (leb-true past x q)
-      go false false p q = lies-inside (ltb-false x low p) (leb-false past x q)
+  lies = lies-in (sits low past x)
 
 of-below : {low past x : ℕ} {s : Side} → Lies low past x s → s ≡ Below → x < low
 of-below (lies-below lt) e = lt

@@ -13,6 +13,9 @@
 --     T4  at-most-2w-2-prefixes    at most 2w - 2 prefixes for w ≥ 2
 --         one-prefix-at-width-1    exactly one for w = 1
 --     T5  side-says                the three outcomes of the range test, and what each says
+--     W2  spot-says                the six outcomes that tell a number at an end from one between, and what each says
+--         spot-one                 what one of them says holds of no number that has another
+--         both-iff                 at both ends exactly when low, the number and the last number of the range are one
 -- Assumes nothing.
 use Prim.Native.Nat.{ℕ, _+_, _-_, _*_, _/_, _%_, _^_, _≤_, _<_}
 use mathlib.Core.List.{List, _++_}
@@ -26,10 +29,14 @@ use lib.Pow.{pow-pos}
 use lib.Seq.{getD-append-add, getD-drop}
 use borrow.Author.Tests.{ne-eqb}
 use Rattle.ranges.specs.Refusals.{refused, BadWidth, BadPrefix}
+use Rattle.ranges.specs.Spots.{spotOf}
 use Rattle.ranges.specs.Sides.{endOf, sideOf}
 use Rattle.ranges.specs.Prefixes.{boundsOf, lastOf}
 use Rattle.ranges.specs.Blocks.{Ranged, prefixesOf, expandFault, runAfter, written, flat}
 use Rattle.ranges.specs.declared.prefix.Bounds.the-variants.{Are, Refused}
+use Rattle.ranges.specs.declared.spot.Spot.{Spot}
+use Rattle.ranges.specs.declared.spot.Spot.the-variants.{AtBoth}
+use Rattle.ranges.proofs.Spots.{Sits, sits, spot-is, both-ends-iff}
 use Rattle.ranges.proofs.Sides.{Lies, lies, within-high, past-high}
 use Rattle.ranges.proofs.Prefixes.{NoPrefix, bounds-9-iff, bounds-10-iff, bounds-are}
 use Rattle.ranges.proofs.Passes.{flat-length}
@@ -115,3 +122,16 @@ one-prefix-at-width-1 = one-prefix
 -- a number is below the range, past it or inside, by the outcome of the test
 pub side-says : (low past x : ℕ) → Lies low past x (sideOf low past x)
 side-says = lies
+
+-- ---- W2
+-- a number is below the range, past it, at one of its ends, at both or between them, by the outcome of the single range test
+pub spot-says : (low past x : ℕ) → Sits low past x (spotOf low past x)
+spot-says = sits
+
+-- so exactly one of the six holds: the facts of an outcome hold of the numbers that have it and of no others
+pub spot-one : {low past x : ℕ} {s : Spot} → Sits low past x s → spotOf low past x ≡ s
+spot-one = spot-is
+
+-- a number is at both ends exactly when it is low and the number after it is the first one past the range
+pub both-iff : (low past x : ℕ) → (spotOf low past x ≡ AtBoth) ↔ ((x ≡ low) × (x + 1 ≡ past))
+both-iff = both-ends-iff

@@ -1,5 +1,5 @@
--- What a test says of the numbers below n: whether all pass, how many pass, which is the least; the list of a
--- function's values; and whether two lists are the same. Every layer's definitions are put together from these; proofs use their laws
+-- What a test says of the numbers below n: whether all pass, whether one does, how many pass, which is the least; the list
+-- of a function's values; and whether two lists are the same. Every layer's definitions are put together from these; proofs use their laws
 -- (`proofs/Numbers.antt`) and do not unfold them.
 -- Assumes nothing: these are definitions.
 use Prim.Native.Nat.{ℕ, zero, suc, _+_}
@@ -33,6 +33,11 @@ bit false = 0
 unfoldable pub all : ℕ → (ℕ → Bool) → Bool
 all zero P = true
 all (suc n) P = all n P and P n
+
+-- some number below n passes
+unfoldable pub any : ℕ → (ℕ → Bool) → Bool
+any zero P = false
+any (suc n) P = any n P or P n
 
 -- how many numbers below n pass
 unfoldable pub count : ℕ → (ℕ → Bool) → ℕ

@@ -6,10 +6,13 @@
 use Prim.Native.Nat.{ℕ, _+_}
 use mathlib.Core.Bool.{Bool, true, false}
 use lib.Dec.{ltb, leb}
-use Rattle.ranges.specs.Numbers.{pick, _and_}
+use Rattle.ranges.specs.Numbers.{_and_}
+use Rattle.ranges.specs.Spots.{spotOf}
 use Rattle.ranges.specs.declared.side.Range.{Range}
 use Rattle.ranges.specs.declared.side.Side.{Side}
 use Rattle.ranges.specs.declared.side.Side.the-variants.{Below, Above, Inside}
+use Rattle.ranges.specs.declared.spot.Spot.{Spot}
+use Rattle.ranges.specs.declared.spot.Spot.the-variants.{Below as AtBelow, AtLow, Between, AtHigh, AtBoth, Above as AtAbove}
 
 -- the first number past a range that ends at high
 unfoldable pub endOf : ℕ → ℕ
@@ -19,10 +22,19 @@ endOf high = high + 1
 abbrev pub closedAt : ℕ → ℕ → Range
 closedAt low high = record { low = low; past = endOf high }
 
+-- the side that a spot is on: all but below and above are inside
+abbrev pub sideIn : Spot → Side
+sideIn AtBelow = Below
+sideIn AtLow = Inside
+sideIn Between = Inside
+sideIn AtHigh = Inside
+sideIn AtBoth = Inside
+sideIn AtAbove = Above
+
 -- x is below where it is less than low, else above where it is not before past, else inside
 -- (250 is above 200-249 and inside 200-299; of 5-3, 4 is below, 5 above, and nothing inside)
 unfoldable pub sideOf : ℕ → ℕ → ℕ → Side
-sideOf low past x = pick (ltb x low) Below (pick (leb past x) Above Inside)
+sideOf low past x = sideIn (spotOf low past x)
 
 -- the range holds no number
 abbrev pub voidOf : ℕ → ℕ → Bool

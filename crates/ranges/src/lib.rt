@@ -6,7 +6,8 @@
 // The range. A range is its low and the first number past it (`Range`); `closed` makes one of low and high, and nothing
 // else knows how a range ends.
 //
-// What it answers. `side_of` says on which side of a range a number lies, `is_void` whether a range holds none, `meets`
+// What it answers. `spot_of` is the single range test: it says where a number lies as against both ends of a range (02,
+// W2), and `side_of` sorts that into below, above and inside. `is_void` says whether a range holds no number, `meets`
 // whether two share one, and `standing_of` which of two is under the other. `prefix_to_range` turns a prefix into its
 // range. `range_to_prefixes` turns a range into prefixes: from the low end, always the largest aligned block that stays
 // in the range.
@@ -14,4 +15,5 @@ pub mod expand;
 pub mod prefix;
 pub mod refusal;
 pub mod side;
+pub mod spot;
 pub mod standing;

@@ -1,6 +1,8 @@
 // A range, and the tests of it: the single range test, whether it holds a number, whether two share one.
+use crate::spot::Spot;
+use crate::spot::spot_of;
 ghost use mathlib.Core.Path.{_≡_};
-ghost use Rattle.ranges.specs.Sides.{closedAt, sideOf, voidOf, meetOf};
+ghost use Rattle.ranges.specs.Sides.{closedAt, sideIn, sideOf, voidOf, meetOf};
 
 // On which side of a range a number lies, in the order in which the outcomes are tried.
 pub enum Side {
@@ -25,17 +27,25 @@ pub fn closed(low: u32, high: u32) -> Range
     }
 }
 
-// Says on which side of a range the number x lies, tried in 01's order: below, above, inside.
+// Says on which side a spot is: all but below and above are inside.
+fn side_in(spot: Spot) -> Side
+    ensures { λ r. ⌜ r ≡ sideIn spot ⌝ }
+{
+    match spot {
+        Spot::Below => Side::Below,
+        Spot::AtLow => Side::Inside,
+        Spot::Between => Side::Inside,
+        Spot::AtHigh => Side::Inside,
+        Spot::AtBoth => Side::Inside,
+        Spot::Above => Side::Above,
+    }
+}
+
+// Says on which side of a range the number x lies: below, above or inside, as its spot is.
 pub fn side_of(range: Range, x: u32) -> Side
     ensures { λ r. ⌜ r ≡ sideOf (range .low) (range .past) x ⌝ }
 {
-    if x < range.low {
-        return Side::Below;
-    }
-    if range.past <= x as u64 {
-        return Side::Above;
-    }
-    Side::Inside
+    side_in(spot_of(range, x))
 }
 
 // Says whether a range holds no number.
