@@ -47,7 +47,7 @@ extern "C" {
 
 /* The version of this header; cuy_version() gives that of the archive. Raised whenever an answer's numbers or a function's
  * parameters change: where the two differ, header and archive do not belong together. */
-#define CUY_VERSION 1
+#define CUY_VERSION 2
 
 /* The limits: fields of a rule, rules of a list, numbers of the longest list and of the longest table. */
 #define CUY_MAX_FIELDS 8
@@ -122,12 +122,15 @@ uint32_t cuy_independence(size_t d, const uint32_t *list, size_t list_length, ui
 uint32_t cuy_build(size_t d, const uint32_t *list, size_t list_length, uint16_t *table, size_t table_length,
                    uint64_t answer[4]);
 
-/* Looks a header up in a table. Answers 1 in answer[3] and a rule number in answer[4], or 0 in both where no rule fits; and
- * in answer[5] the number of range tests. In a table that cuy_build wrote for this list the rule is the first match, and
- * nothing is refused. In any other table a rule that is answered still fits the header.
- * Refuses with 1, 2, 3, 5, 6; never with 4, since it does not read the whole list. */
+/* Looks a header up in a table. Answers 1 in answer[3] and a rule number in answer[4], or 0 in both where no rule fits; in
+ * answer[5] the number of range tests; and in answer[6] 1 where the rule is at an edge, else 0, as it is where no rule fits: in
+ * one of the d fields, at least, the header's number is the low or the high of that rule's range. In a table that cuy_build
+ * wrote for this list the rule is the first match, and nothing is refused. In any other table a rule that is answered still
+ * fits the header, and the edge is its own.
+ * Refuses with 1, 2, 3, 5, 6; never with 4, since it does not read the whole list.
+ * In version 1 the answer had six numbers: who still lends six is written past. */
 uint32_t cuy_lookup(size_t d, const uint32_t *list, size_t list_length, const uint16_t *table, size_t table_length,
-                    const uint32_t header[8], uint64_t answer[6]);
+                    const uint32_t header[8], uint64_t answer[7]);
 
 /* Audits a table. Answers 1 in answer[3] exactly when every number of the table is what cuy_build would write for this
  * list, else 0.

@@ -27,7 +27,7 @@ static inline __attribute__((always_inline)) void look_up_all(look *one) {
     uint64_t sum = 0;
     for (size_t k = 0; k < HEADERS; k++) {
         struct plain_answer a = one(list.d, list.numbers, length, table, table_length, headers[k]);
-        sum += a.tests + (uint32_t)a.rule;
+        sum += a.tests + (uint32_t)a.rule + a.edge;
     }
     kept = sum;
 }
@@ -70,7 +70,7 @@ static void fail(const char *what, const char *character, size_t k) {
     exit(1);
 }
 
-static int same(struct plain_answer a, struct plain_answer b) { return a.refusal == b.refusal && a.tests == b.tests && a.rule == b.rule; }
+static int same(struct plain_answer a, struct plain_answer b) { return a.refusal == b.refusal && a.tests == b.tests && a.rule == b.rule && a.edge == b.edge; }
 
 // Builds the table, compares all answers, times, and prints: character, n, d, b, mean tests, hits of 100, then the nanoseconds of each.
 static void measure(const char *character, struct draw *from) {

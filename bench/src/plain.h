@@ -4,10 +4,11 @@
 #include <stddef.h>
 #include <stdint.h>
 
-// A lookup's or a scan's answer: the refusal (0: none), the rule (-1: none), the tests.
+// A lookup's answer: the refusal (0: none), the tests, the rule (-1: none), and 1 where it is at an edge, else 0.
 struct plain_answer {
     uint32_t refusal, tests;
     int32_t rule;
+    uint32_t edge;
 };
 
 // Writes the table of a list by first fit and gives b, or minus the refusal. First fit compares with the members of each

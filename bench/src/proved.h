@@ -11,9 +11,9 @@ static inline int proved_build(size_t d, const uint32_t *list, size_t length, ui
 }
 
 static inline struct plain_answer proved_lookup(size_t d, const uint32_t *list, size_t length, const uint16_t *table, size_t table_length, const uint32_t *header) {
-    uint64_t answer[6];
+    uint64_t answer[7];
     uint32_t refusal = cuy_lookup(d, list, length, table, table_length, header, answer);
-    return (struct plain_answer){refusal, (uint32_t)answer[5], answer[3] ? (int32_t)answer[4] : -1};
+    return (struct plain_answer){refusal, (uint32_t)answer[5], answer[3] ? (int32_t)answer[4] : -1, (uint32_t)answer[6]};
 }
 
 static inline int32_t proved_scan(size_t d, const uint32_t *list, size_t length, const uint32_t *header) {

@@ -1,16 +1,17 @@
 //! The walk of 01 as a plain Rust loop over slices, with every refusal of a lookup: what the proved walk, which calls
 //! itself, is timed against.
 
-/// A lookup's answer: the refusal (0: none), the tests, the rule (-1: none).
+/// A lookup's answer: the refusal (0: none), the tests, the rule (-1: none), and 1 where it is at an edge, else 0.
 #[repr(C)]
 pub struct Answer {
     refusal: u32,
     tests: u32,
     rule: i32,
+    edge: u32,
 }
 
 const fn refused(refusal: u32) -> Answer {
-    Answer { refusal, tests: 0, rule: -1 }
+    Answer { refusal, tests: 0, rule: -1, edge: 0 }
 }
 
 fn lookup(d: usize, list: &[u32], table: &[u16], header: &[u32; 8]) -> Answer {
@@ -73,7 +74,12 @@ fn lookup(d: usize, list: &[u32], table: &[u16], header: &[u32; 8]) -> Answer {
         }
         best = best.min(rule);
     }
-    Answer { refusal: 0, tests, rule: if best < n { best as i32 } else { -1 } }
+    if best == n {
+        return Answer { refusal: 0, tests, rule: -1, edge: 0 };
+    }
+    let ranges = &list[2 * best * d..2 * (best + 1) * d];
+    let edge = (0..d).any(|f| ranges[2 * f] == header[f] || header[f] == ranges[2 * f + 1]);
+    Answer { refusal: 0, tests, rule: best as i32, edge: edge as u32 }
 }
 
 /// The same for C.

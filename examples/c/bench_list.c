@@ -29,7 +29,7 @@ static int refused(uint32_t number) {
 
 int main(void) {
     uint16_t table[TABLE];
-    uint64_t built[4], found[6];
+    uint64_t built[4], found[7];
     uint32_t number = cuy_build(FIELDS, list, sizeof list / sizeof list[0], table, TABLE, built);
     if (number != 0) return refused(number);
     printf("rule,tests\n");

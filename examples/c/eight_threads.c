@@ -4,13 +4,14 @@
 
 #include <pthread.h>
 #include <stdio.h>
+#include <string.h>
 
 enum { FIELDS = 2, RULES = 256, THREADS = 8, HEADERS = 50000, LIST = RULES * 2 * FIELDS };
 enum { TABLE = CUY_TABLE_LENGTH(RULES, FIELDS) };
 
 static uint32_t list[LIST], headers[HEADERS][8];
 static uint16_t table[TABLE];
-static uint64_t expected[HEADERS][6];
+static uint64_t expected[HEADERS][7];
 
 /* Rules whose ranges overlap in field 1, and in field 0 for every fourth; headers drawn from a fixed seed. */
 static void fill(void) {
@@ -44,9 +45,9 @@ static void *look_up(void *place) {
     unsigned *right = place, first = *right, count = 0;
     for (unsigned k = 0; k < HEADERS; k++) {
         unsigned i = (first + k) % HEADERS;
-        uint64_t found[6];
+        uint64_t found[7];
         if (cuy_lookup(FIELDS, list, LIST, table, TABLE, headers[i], found) != 0) continue;
-        if (found[3] == expected[i][3] && found[4] == expected[i][4] && found[5] == expected[i][5]) count++;
+        if (memcmp(found, expected[i], sizeof found) == 0) count++;
     }
     *right = count;
     return NULL;

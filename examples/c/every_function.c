@@ -18,6 +18,9 @@ static const uint32_t many[2 * 1025];
 
 static const uint32_t b4[8] = {7, 150}, b7[8] = {10, 0};
 
+/* between the ends of rule 4 in both fields */
+static const uint32_t plain[8] = {5, 5};
+
 /* Prints a line: what was called, and the k numbers that it answered or its refusal. */
 static void say(const char *what, uint32_t number, const uint64_t *answer, int k) {
     printf("%s:", what);
@@ -60,9 +63,9 @@ static void build(const char *what, size_t d, const uint32_t *list, size_t lengt
 }
 
 static void lookup(const char *what, const uint16_t *table, size_t table_length, const uint32_t header[8]) {
-    uint64_t answer[6] = {9, 9, 9, 9, 9, 9};
+    uint64_t answer[7] = {9, 9, 9, 9, 9, 9, 9};
     uint32_t number = cuy_lookup(FIELDS, bench, NUMBERS, table, table_length, header, answer);
-    say(what, number, answer, 3);
+    say(what, number, answer, 4);
 }
 
 static void audit(const char *what, const uint32_t *list, const uint16_t *table) {
@@ -144,6 +147,7 @@ int main(void) {
 
     lookup("look up 7, 150", table, TABLE, b4);
     lookup("look up 10, 0", table, TABLE, b7);
+    lookup("look up 5, 5", table, TABLE, plain);
     lookup("look up one number short", table, TABLE - 1, b4);
 
     audit("audit", bench, table);

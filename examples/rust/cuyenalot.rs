@@ -8,7 +8,7 @@
 pub type Header = [u32; 8];
 
 /// The version of the interface that this file is for; `version()` gives that of the archive.
-pub const VERSION: u32 = 1;
+pub const VERSION: u32 = 2;
 
 /// The limits: fields of a rule, rules of a list, numbers of the longest list and of the longest table.
 pub const MAX_FIELDS: usize = 8;
@@ -54,11 +54,13 @@ impl std::fmt::Display for Refusal {
 
 impl std::error::Error for Refusal {}
 
-/// What a lookup finds: the rule, or none, and the number of range tests.
+/// What a lookup finds: the rule, or none, the number of range tests, and whether the rule is at an edge: in one of the d
+/// fields, at least, the header's number is the low or the high of its range. None has no edge.
 #[derive(Clone, Copy, Debug, PartialEq, Eq)]
 pub struct Looked {
     pub rule: Option<usize>,
     pub tests: usize,
+    pub edge: bool,
 }
 
 /// A partition: how many rules it has, and the smallest rule number.
@@ -96,7 +98,7 @@ mod c {
             table: *const u16,
             table_length: usize,
             header: &[u32; 8],
-            answer: &mut [u64; 6],
+            answer: &mut [u64; 7],
         ) -> u32;
         pub fn cuy_audit(
             d: usize,
@@ -170,13 +172,13 @@ pub fn build(d: usize, list: &[u32], table: &mut [u16]) -> Result<usize, Refusal
     Ok(answer[3] as usize)
 }
 
-/// Looks a header up in a table: the rule, or none, and the range tests.
+/// Looks a header up in a table: the rule, or none, the range tests, and whether the rule is at an edge.
 pub fn lookup(d: usize, list: &[u32], table: &[u16], header: &Header) -> Result<Looked, Refusal> {
-    let mut answer = [0; 6];
+    let mut answer = [0; 7];
     let number =
         unsafe { c::cuy_lookup(d, list.as_ptr(), list.len(), table.as_ptr(), table.len(), header, &mut answer) };
     told(number, &answer)?;
-    Ok(Looked { rule: match_in(&answer), tests: answer[5] as usize })
+    Ok(Looked { rule: match_in(&answer), tests: answer[5] as usize, edge: answer[6] == 1 })
 }
 
 /// Audits a table: whether it is, number for number, what a build writes for this list.

@@ -20,6 +20,9 @@ const MANY: [u32; 2 * 1025] = [0; 2 * 1025];
 const B4: Header = [7, 150, 0, 0, 0, 0, 0, 0];
 const B7: Header = [10, 0, 0, 0, 0, 0, 0, 0];
 
+/// Between the ends of rule 4 in both fields.
+const PLAIN: Header = [5, 5, 0, 0, 0, 0, 0, 0];
+
 /// Prints a line: what was called, and the numbers that it answered or its refusal.
 fn say<const K: usize>(what: &str, answer: Result<[usize; K], Refusal>) {
     match answer {
@@ -43,10 +46,10 @@ fn paired(pair: Option<(usize, usize)>) -> [usize; 3] {
     pair.map_or([1, 0, 0], |(i, j)| [0, i, j])
 }
 
-/// A lookup as the C function answers it: the match, then the tests.
-fn looked(looked: Looked) -> [usize; 3] {
+/// A lookup as the C function answers it: the match, then the tests, then 1 at an edge.
+fn looked(looked: Looked) -> [usize; 4] {
     let [found, rule] = matched(looked.rule);
-    [found, rule, looked.tests]
+    [found, rule, looked.tests, looked.edge as usize]
 }
 
 /// The longest list, its table, and the numbers that say how long they are.
@@ -93,6 +96,7 @@ fn main() {
 
     say("look up 7, 150", lookup(FIELDS, &BENCH, &table, &B4).map(looked));
     say("look up 10, 0", lookup(FIELDS, &BENCH, &table, &B7).map(looked));
+    say("look up 5, 5", lookup(FIELDS, &BENCH, &table, &PLAIN).map(looked));
     say("look up one number short", lookup(FIELDS, &BENCH, &table[..TABLE - 1], &B4).map(looked));
 
     say("audit", audit(FIELDS, &BENCH, &table).map(|same| [same as usize]));

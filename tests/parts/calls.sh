@@ -2,7 +2,7 @@
 
 # How many lines of each kind are drawn.
 declare -A drawn_lines=(
-    [prefixes]=20000 [lists]=20000 [sorting]=20000 [lookup]=40000 [protocol]=10000 [random]=40000 [large]=300
+    [ranges]=5000 [prefixes]=20000 [lists]=20000 [sorting]=20000 [lookup]=40000 [protocol]=10000 [random]=40000 [large]=300
 )
 
 # Prints how many lines differ and the number of the first, parted by a blank. A line that is missing in one differs.

@@ -21,9 +21,9 @@ refusedSaid number = bytes "refused," ++ decimalOf number ++ bytes "\r\n"
 abbrev pub testsSaid : ℕ → List ℕ
 testsSaid tests = bytes "," ++ decimalOf tests ++ bytes "\r\n"
 
--- the line of a lookup's answer
+-- the line of a lookup's answer, which says no edge
 abbrev pub lookedSaid : Looked → List ℕ
-lookedSaid (Rule i t) = decimalOf i ++ testsSaid t
+lookedSaid (Rule i t e) = decimalOf i ++ testsSaid t
 lookedSaid (Nothing t) = bytes "none" ++ testsSaid t
 lookedSaid (Refused x) = refusedSaid (x .number)
 

@@ -38,12 +38,12 @@ fn put_tests(tests: usize, out: &mut [u8], at: usize) -> usize
     put_text(b"\r\n", out, b)
 }
 
-// Puts the line of a lookup's answer: RULE,TESTS or none,TESTS, or the refusal.
+// Puts the line of a lookup's answer: RULE,TESTS or none,TESTS, or the refusal; 01 prints no edge.
 pub fn put_looked(looked: Looked, out: &mut [u8], at: usize) -> usize
     ensures { λ r. ⌜ PutLine (now (out .entry)) at (lookedSaid looked) (now (out .exit)) r ⌝ }
 {
     match looked {
-        Looked::Rule { rule, tests } => {
+        Looked::Rule { rule, tests, .. } => {
             let a = put_number(rule as u64, out, at);
             put_tests(tests, out, a)
         }

@@ -18,15 +18,15 @@ use Rattle.text.specs.declared.row.Row.{Row}
 use Rattle.text.proofs.Rows.{kept-long}
 use Rattle.words.specs.Limits.{lineRoom, answerMost}
 use Rattle.words.specs.Few.{PutFew}
-use Rattle.words.specs.Words.{badSaid, following}
+use Rattle.words.specs.Words.{badSaid, following, sideSaid, p2rSaid}
 use Rattle.words.specs.declared.table_words.TableWord.{TableWord}
 use Rattle.words.specs.declared.table_words.TableWord.the-variants.{Build, Lookup, Audit, Report}
 use Rattle.words.proofs.Few.{few-more}
 use Rattle.words.proofs.Parts.{list-over, tables-over}
-use Rattle.words.proofs.Words.{p2r-bad, r2p-over, left-long}
+use Rattle.words.proofs.Words.{exact-bad, r2p-over, left-long}
 use Rattle.calls.specs.declared.line.Line.{Line}
 use Rattle.calls.specs.declared.word.Word.{Word}
-use Rattle.calls.specs.declared.word.Word.the-variants.{Check, Scan, Independent, Table, P2r, R2p, Unknown}
+use Rattle.calls.specs.declared.word.Word.the-variants.{Check, Scan, Independent, Table, Side, P2r, R2p, Unknown}
 use Rattle.calls.specs.Lines.{Heard, heard}
 use Rattle.calls.specs.Names.{wordOf}
 use Rattle.calls.specs.Answers.{wordSaid, wordLeft, isCall, namedLeft, answerSaid, answerLeft}
@@ -94,6 +94,7 @@ word-long Check ns = refl
 word-long Scan ns = refl
 word-long Independent ns = refl
 word-long (Table word) ns = refl
+word-long Side ns = refl
 word-long P2r ns = refl
 word-long R2p ns = left-long ns
 word-long Unknown ns = refl
@@ -129,10 +130,12 @@ following-few Audit = omega arith
 following-few Report = omega arith
 
 pub call-over : (word : Word) (ns : List ℕ) → lineRoom < length ns → wordSaid word ns ≡ badSaid
+unfolding sideSaid p2rSaid
 call-over Check ns over = rw (list-over ns 0 (omega arith))
 call-over Scan ns over = rw (list-over ns 8 (omega arith))
 call-over Independent ns over = rw (list-over ns 0 (omega arith))
 call-over (Table word) ns over = let few = following-few word in rw (tables-over ns (following word) (omega arith))
-call-over P2r ns over = p2r-bad ns (λ e. omega arith)
+call-over Side ns over = exact-bad 5 ns _ (λ e. omega arith)
+call-over P2r ns over = exact-bad 3 ns _ (λ e. omega arith)
 call-over R2p ns over = rw (r2p-over ns (omega arith))
 call-over Unknown ns over = refl

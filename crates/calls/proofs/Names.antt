@@ -32,6 +32,7 @@ name-over name long =
       longer-other name (bytes "lookup") (omega arith) long,
       longer-other name (bytes "audit") (omega arith) long,
       longer-other name (bytes "report") (omega arith) long,
+      longer-other name (bytes "side") (omega arith) long,
       longer-other name (bytes "p2r") (omega arith) long,
       longer-other name (bytes "r2p") (omega arith) long,
     )

@@ -10,9 +10,9 @@ use lib.Dec.{leb}
 use Rattle.ranges.specs.Numbers.{pick, _and_}
 use Rattle.text.specs.Rows.{cellsIn, allNumbers, valuesOf, good, rowNext, keptAt}
 use Rattle.text.specs.declared.row.Row.{Row}
-use Rattle.words.specs.Words.{badSaid, checkSaid, scanSaid, independentSaid, tabledSaid, p2rSaid, r2pSaid, r2pLeft}
+use Rattle.words.specs.Words.{badSaid, checkSaid, scanSaid, independentSaid, tabledSaid, sideSaid, p2rSaid, r2pSaid, r2pLeft}
 use Rattle.calls.specs.declared.word.Word.{Word}
-use Rattle.calls.specs.declared.word.Word.the-variants.{Check, Scan, Independent, Table, P2r, R2p, Unknown}
+use Rattle.calls.specs.declared.word.Word.the-variants.{Check, Scan, Independent, Table, Side, P2r, R2p, Unknown}
 use Rattle.calls.specs.Lines.{Heard}
 use Rattle.calls.specs.Names.{wordOf}
 
@@ -22,6 +22,7 @@ wordSaid Check ns = checkSaid ns
 wordSaid Scan ns = scanSaid ns
 wordSaid Independent ns = independentSaid ns
 wordSaid (Table word) ns = tabledSaid word ns
+wordSaid Side ns = sideSaid ns
 wordSaid P2r ns = p2rSaid ns
 wordSaid R2p ns = r2pSaid ns
 wordSaid Unknown ns = badSaid
@@ -32,6 +33,7 @@ wordLeft Check ns = ns
 wordLeft Scan ns = ns
 wordLeft Independent ns = ns
 wordLeft (Table word) ns = ns
+wordLeft Side ns = ns
 wordLeft P2r ns = ns
 wordLeft R2p ns = r2pLeft ns
 wordLeft Unknown ns = ns

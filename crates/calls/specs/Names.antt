@@ -5,15 +5,16 @@ use mathlib.Core.List.{List}
 use Rattle.ranges.specs.Numbers.{pick, sameList}
 use Rattle.text.specs.Texts.{bytes}
 use Rattle.calls.specs.declared.word.Word.{Word}
-use Rattle.calls.specs.declared.word.Word.the-variants.{Check, Scan, Independent, Table, P2r, R2p, Unknown}
+use Rattle.calls.specs.declared.word.Word.the-variants.{Check, Scan, Independent, Table, Side, P2r, R2p, Unknown}
 use Rattle.words.specs.declared.table_words.TableWord.the-variants.{Build, Lookup, Audit, Report}
 
--- the calls of prefixes and ranges
+-- the calls of ranges and prefixes
 unfoldable pub prefixWord : List ℕ → Word
 prefixWord name =
-    pick (sameList name (bytes "p2r")) P2r
+    pick (sameList name (bytes "side")) Side
+    (pick (sameList name (bytes "p2r")) P2r
     (pick (sameList name (bytes "r2p")) R2p
-    Unknown)
+    Unknown))
 
 -- the calls of a list and a table, and those above
 unfoldable pub tableWord : List ℕ → Word

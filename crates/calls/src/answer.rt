@@ -9,6 +9,7 @@ use words::list_words::call_independent;
 use words::list_words::call_scan;
 use words::prefix_words::call_p2r;
 use words::prefix_words::call_r2p;
+use words::prefix_words::call_side;
 use words::say::put_bad;
 use words::table_words::call_table;
 ghost use Prim.Native.Nat.{_-_};
@@ -29,6 +30,7 @@ fn put_word(word: Word, given: &mut [u32], out: &mut [u8], at: usize) -> usize
         Word::Scan => call_scan(given, out, at),
         Word::Independent => call_independent(given, out, at),
         Word::Table(call) => call_table(call, given, out, at),
+        Word::Side => call_side(given, out, at),
         Word::P2r => call_p2r(given, out, at),
         Word::R2p => call_r2p(given, out, at),
         Word::Unknown => put_bad(out, at),

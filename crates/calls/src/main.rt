@@ -52,10 +52,11 @@ Reads lines from standard input and answers each with one line:\n\
 check D LIST                 ok N\n\
 scan D LIST HEADER           ok RULE | ok none\n\
 build D LIST TABLE           ok B | refused ..       and then, either way, table and the table's numbers\n\
-lookup D LIST TABLE HEADER   ok RULE TESTS | ok none TESTS\n\
+lookup D LIST TABLE HEADER   ok RULE TESTS edge | ok RULE TESTS plain | ok none TESTS plain\n\
 audit D LIST TABLE           ok yes | ok no\n\
 report D LIST TABLE P        ok SIZE SMALLEST\n\
 independent D LIST           ok yes | ok no I J\n\
+side D FIELD LOW HIGH NUMBER ok below | ok low | ok between | ok high | ok both | ok above\n\
 p2r VALUE LENGTH WIDTH       ok LOW HIGH\n\
 r2p LOW HIGH WIDTH RUN       ok COUNT | refused ..   and then, either way, run and the run's numbers\n\
 any refusal                  refused NUMBER FIRST SECOND\n\

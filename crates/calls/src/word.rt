@@ -9,6 +9,7 @@ pub enum Word {
     Scan,
     Independent,
     Table(TableWord),
+    Side,
     P2r,
     R2p,
     Unknown,
@@ -49,10 +50,13 @@ fn table_word(name: &[u8]) -> Word
     prefix_word(name)
 }
 
-// Says which of the calls of prefixes and ranges a name asks for.
+// Says which of the calls of ranges and prefixes a name asks for.
 fn prefix_word(name: &[u8]) -> Word
     ensures { λ r. ⌜ r ≡ prefixWord (now (name .entry)) ⌝ }
 {
+    if check::same(name, b"side") {
+        return Word::Side;
+    }
     if check::same(name, b"p2r") {
         return Word::P2r;
     }

@@ -149,7 +149,7 @@ rules-without-headers rb none = answers-all rb [] none ∙ append-nil headSaid
 pub line-first-match : (ls : List (List ℕ)) → rulesFault ls ≡ 0 → (l : List ℕ) → allNumbers (cellsOf l) ≡ true → length (cellsOf l) ≡ fieldsOf (rulesFrom ls)
     → let R = rulesFrom ls in
     let h = headerOf (cellsOf l) in
-    lineSaid R (builtTable R) l ≡ lookedSaid (answerOf R (firstMatch R h) (testsIn (lookupOf R (builtTable R) h)))
+    lineSaid R (builtTable R) l ≡ lookedSaid (answerOf R h (firstMatch R h) (testsIn (lookupOf R (builtTable R) h)))
 line-first-match ls none l good count =
     let R = rulesFrom ls in
     let h = headerOf (cellsOf l) in

@@ -3,6 +3,7 @@
 -- number other than 0 (`..Refuses`), and the library gives no other (`Theorems.antt`).
 -- Assumes nothing.
 use Prim.Native.Nat.{ℕ}
+use mathlib.Core.Bool.{true, false}
 use mathlib.Core.List.{List}
 use mathlib.Core.Path.{_≡_, refl}
 use lib.Dec.{eqb}
@@ -133,17 +134,18 @@ part-back (part.Refused x) p = rw (ne-eqb (x .number) 0 p)
 
 -- ---- a lookup
 abbrev pub LookedRefuses : Looked → Type 0
-LookedRefuses (looked.Rule i t) = Unit {0}
+LookedRefuses (looked.Rule i t e) = Unit {0}
 LookedRefuses (looked.Nothing t) = Unit {0}
 LookedRefuses (looked.Refused x) = Refuses x
 
 abbrev pub lookedBack : List ℕ → Looked
 lookedBack run =
     pick (stands (refusalIn run))
-    (pick (eqb (nth 3 run) 1) (looked.Rule (nth 4 run) (nth 5 run)) (looked.Nothing (nth 5 run)))
+    (pick (eqb (nth 3 run) 1) (looked.Rule (nth 4 run) (nth 5 run) (eqb (nth 6 run) 1)) (looked.Nothing (nth 5 run)))
     (looked.Refused (refusalIn run))
 
-pub looked-back : (x : Looked) → LookedRefuses x → lookedBack (numbersOf 3 (saysInPlace x)) ≡ x
-looked-back (looked.Rule i t) p = refl
+pub looked-back : (x : Looked) → LookedRefuses x → lookedBack (numbersOf 4 (saysInPlace x)) ≡ x
+looked-back (looked.Rule i t true) p = refl
+looked-back (looked.Rule i t false) p = refl
 looked-back (looked.Nothing t) p = refl
 looked-back (looked.Refused x) p = rw (ne-eqb (x .number) 0 p)

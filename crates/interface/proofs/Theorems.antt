@@ -27,6 +27,7 @@ use Rattle.ranges.specs.declared.prefix.Bounds.the-variants as bounds
 use Rattle.lists.specs.Rules.{Rules, rulesIn}
 use Rattle.lists.specs.Faults.{listFault}
 use Rattle.lists.specs.Check.{checkOf}
+use Rattle.lists.specs.Edges.{edgeOf}
 use Rattle.lists.specs.FirstMatch.{firstMatch}
 use Rattle.lists.specs.Scan.{matchOf, scanOf, saysMatch}
 use Rattle.lists.specs.Independence.{paired, partnerOf, pairOf, independenceOf, saysPair}
@@ -113,11 +114,11 @@ visited Broken next p = eqb-false 6 0 refl
 module _ (R : Rules) (v : View) (h : List ℕ) where
   searched : (k q best t : ℕ) → LookedRefuses (lookupFrom R v h k q best t)
   unfolding lookupFrom
-  searched zero q best t = either LookedRefuses (ltb best (rulesIn R)) (looked.Rule best t) (looked.Nothing t) tt tt
+  searched zero q best t = either LookedRefuses (ltb best (rulesIn R)) (looked.Rule best t (edgeOf R h best)) (looked.Nothing t) tt tt
   searched (suc k) q best t =
       visited (visitOf R v h q) (λ x u. lookupFrom R v h k (suc q) (better best x) (t + u)) (λ x u. searched k (suc q) (better best x) (t + u))
 
-pub lookup-told : (R : Rules) (T h : List ℕ) → lookedBack (numbersOf 3 (saysInPlace (lookupOf R T h))) ≡ lookupOf R T h
+pub lookup-told : (R : Rules) (T h : List ℕ) → lookedBack (numbersOf 4 (saysInPlace (lookupOf R T h))) ≡ lookupOf R T h
 unfolding lookupOf
 lookup-told R T h =
     let v = viewOf R T in

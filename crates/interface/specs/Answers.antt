@@ -6,6 +6,7 @@ use Prim.Native.Nat.{ℕ, _-_}
 use mathlib.Core.Path.{_≡_}
 use mathlib.Core.List.{List, [], _∷_, _++_}
 use lib.ListN.{length, replicate}
+use Rattle.ranges.specs.Numbers.{bit}
 use Rattle.ranges.specs.Refusals.{none, Said, saidOf}
 use Rattle.lists.specs.Rules.{Rules, shapeOf, listed}
 use Rattle.lookup.specs.declared.lookup.Looked.{Looked}
@@ -25,9 +26,9 @@ pub record Told (k : ℕ) (s : Said) (r : ℕ) (run : List ℕ) : Type 0 where
 abbrev pub rulesOf : ℕ → List ℕ → Rules
 rulesOf d l = listed (shapeOf d) l
 
--- what a lookup says with each number at its own place: 1, the rule number and the tests; 0, 0 and the tests where no rule
--- fits (`saysLooked` leaves the rule number out there, which would move the tests)
+-- what a lookup says with each number at its own place: 1, the rule number, the tests, and 1 at an edge, else 0; 0, 0, the
+-- tests and 0 where no rule fits (`saysLooked` leaves the rule number out there, which would move the tests)
 abbrev pub saysInPlace : Looked → Said
-saysInPlace (Rule i t) = saidOf none (1 ∷ i ∷ t ∷ [])
-saysInPlace (Nothing t) = saidOf none (0 ∷ 0 ∷ t ∷ [])
+saysInPlace (Rule i t e) = saidOf none (1 ∷ i ∷ t ∷ bit e ∷ [])
+saysInPlace (Nothing t) = saidOf none (0 ∷ 0 ∷ t ∷ 0 ∷ [])
 saysInPlace (Refused x) = saidOf x []

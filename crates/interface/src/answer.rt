@@ -86,21 +86,22 @@ pub(crate) fn put_pair(pair: Pair, answer: &mut [u64; 6]) -> u32
     }
 }
 
-// Writes 1 and a rule number for a match, 0 and 0 for none, then the tests, and gives the refusal number.
-pub(crate) fn put_looked(looked: Looked, answer: &mut [u64; 6]) -> u32
-    ensures { λ r. ⌜ Told 3 (saysInPlace looked) r (now (answer .exit)) ⌝ }
+// Writes 1 and a rule number for a match, 0 and 0 for none, then the tests, then 1 at an edge and else 0, and gives the
+// refusal number.
+pub(crate) fn put_looked(looked: Looked, answer: &mut [u64; 7]) -> u32
+    ensures { λ r. ⌜ Told 4 (saysInPlace looked) r (now (answer .exit)) ⌝ }
 {
     match looked {
-        Looked::Rule { rule, tests } => {
-            *answer = [0, 0, 0, 1, rule as u64, tests as u64];
+        Looked::Rule { rule, tests, edge } => {
+            *answer = [0, 0, 0, 1, rule as u64, tests as u64, edge as u64];
             0
         }
         Looked::Nothing { tests } => {
-            *answer = [0, 0, 0, 0, 0, tests as u64];
+            *answer = [0, 0, 0, 0, 0, tests as u64, 0];
             0
         }
         Looked::Refused(x) => {
-            *answer = [x.number as u64, x.at as u64, x.then as u64, 0, 0, 0];
+            *answer = [x.number as u64, x.at as u64, x.then as u64, 0, 0, 0, 0];
             x.number
         }
     }

@@ -25,16 +25,17 @@ pub extern "C" fn cuy_build(d: usize, list: &[u32], table: &mut [u16], answer: &
     put_count(build(shape_of(d), list, table), answer)
 }
 
-// Looks a header up in a table: answers 1 and the first match, or 0 and 0 where no rule fits, and the number of tests.
+// Looks a header up in a table: answers 1 and the first match, or 0 and 0 where no rule fits, the number of tests, and 1
+// where a field of the match is at an end of its range, else 0.
 #[no_mangle]
 pub extern "C" fn cuy_lookup(
     d: usize,
     list: &[u32],
     table: &[u16],
     header: &[u32; 8],
-    answer: &mut [u64; 6],
+    answer: &mut [u64; 7],
 ) -> u32
-    ensures { λ r. ⌜ Told 3 (saysInPlace (lookupOf (rulesOf d (now (list .entry))) (now (table .entry)) (now (header .entry)))) r (now (answer .exit)) ⌝ }
+    ensures { λ r. ⌜ Told 4 (saysInPlace (lookupOf (rulesOf d (now (list .entry))) (now (table .entry)) (now (header .entry)))) r (now (answer .exit)) ⌝ }
 {
     put_looked(lookup(shape_of(d), list, table, *header), answer)
 }

@@ -16,7 +16,7 @@ use Rattle.ranges.specs.declared.spot.Spot.{Spot}
 use Rattle.ranges.proofs.Numbers.{any-yes, any-at, any-same}
 use Rattle.ranges.proofs.Spots.{Edge, end-iff}
 use Rattle.lists.specs.Rules.{Rules, Shaped, fieldsOf, rulesIn, lowOf, endsAt, rangeAt}
-use Rattle.lists.specs.Edges.{endAt, edgeOf, edgeIn}
+use Rattle.lists.specs.Edges.{endAt, edgeOf, ruleEdge}
 use Rattle.lists.proofs.InList.{shaped-in}
 use Rattle.lists.proofs.Fitting.{outcome-read}
 
@@ -42,8 +42,8 @@ edge-at-iff R h i = (
       any-yes (endAt R h i) (fieldsOf R) f (at .in-row) (end-iff (lowOf R i f) (endsAt R i f) (getD h f 0) .1 (at .edge)),
 )
 
-pub edge-listed : (R : Rules) (h : List ℕ) (i : ℕ) → Shaped R → i < rulesIn R → edgeIn R h i ≡ edgeOf R h i
-unfolding edgeIn
+pub edge-listed : (R : Rules) (h : List ℕ) (i : ℕ) → Shaped R → i < rulesIn R → ruleEdge R h i ≡ edgeOf R h i
+unfolding ruleEdge
 edge-listed R h i shape rule = rw (shaped-in R i shape rule)
 
 pub edge-same : (R : Rules) (h g : List ℕ) → ((f : ℕ) → f < fieldsOf R → getD h f 0 ≡ getD g f 0) → (i : ℕ) → edgeOf R h i ≡ edgeOf R g i

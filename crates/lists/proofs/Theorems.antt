@@ -40,7 +40,7 @@ use Rattle.lists.specs.Check.{checkOf}
 use Rattle.lists.specs.Headers.{headerLength, IsHeader}
 use Rattle.lists.specs.FirstMatch.{fits, firstMatch}
 use Rattle.lists.specs.Scan.{fitsIn, matchOf, scanOf}
-use Rattle.lists.specs.Edges.{edgeOf, edgeIn}
+use Rattle.lists.specs.Edges.{edgeOf, ruleEdge}
 use Rattle.lists.specs.Independence.{meet, independenceOf}
 use Rattle.lists.specs.declared.scan.Match.the-variants.{Rule, Nothing, Refused as MatchRefused}
 use Rattle.lists.specs.declared.independence.Pair.the-variants.{Independent, Both}
@@ -274,14 +274,14 @@ pub edge-iff : (R : Rules) (h : List ℕ) (i : ℕ) → (edgeOf R h i ≡ true) 
 edge-iff = edge-at-iff
 
 -- what a yes of `rule_edge` tells, and when it is given
-pub rule-edge-iff : (R : Rules) (h : List ℕ) (i : ℕ) → (edgeIn R h i ≡ true) ↔ (Listed R i × AtEdge R h i)
-unfolding edgeIn
+pub rule-edge-iff : (R : Rules) (h : List ℕ) (i : ℕ) → (ruleEdge R h i ≡ true) ↔ (Listed R i × AtEdge R h i)
+unfolding ruleEdge
 rule-edge-iff R h i = (
   λ e. (in-told R i (and-left (inList R i) (edgeOf R h i) e), edge-at-iff R h i .0 (and-right (inList R i) (edgeOf R h i) e)),
   λ p. rw (in-yes R i (p .0)) (edge-at-iff R h i .1 (p .1)),
 )
 
 -- a header's numbers past d alter nothing
-pub edge-unread : (R : Rules) (h g : List ℕ) → ((f : ℕ) → f < fieldsOf R → getD h f 0 ≡ getD g f 0) → (i : ℕ) → edgeIn R h i ≡ edgeIn R g i
-unfolding edgeIn
+pub edge-unread : (R : Rules) (h g : List ℕ) → ((f : ℕ) → f < fieldsOf R → getD h f 0 ≡ getD g f 0) → (i : ℕ) → ruleEdge R h i ≡ ruleEdge R g i
+unfolding ruleEdge
 edge-unread R h g agree i = rw (edge-same R h g agree i)

@@ -25,5 +25,5 @@ unfoldable pub edgeOf : Rules → List ℕ → ℕ → Bool
 edgeOf R h i = any (fieldsOf R) (endAt R h i)
 
 -- d is 1 to 8, the list has a rule i, and it has a field at an end
-unfoldable pub edgeIn : Rules → List ℕ → ℕ → Bool
-edgeIn R h i = inList R i and edgeOf R h i
+unfoldable pub ruleEdge : Rules → List ℕ → ℕ → Bool
+ruleEdge R h i = inList R i and edgeOf R h i

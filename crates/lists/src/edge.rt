@@ -8,7 +8,7 @@ ghost use mathlib.Core.Path.{_≡_};
 ghost use Rattle.ranges.specs.Spots.{atEnd};
 ghost use Rattle.lists.specs.Rules.{listed};
 ghost use Rattle.lists.specs.Asked.{HasRule, HasField};
-ghost use Rattle.lists.specs.Edges.{endAt, edgeOf, edgeIn};
+ghost use Rattle.lists.specs.Edges.{endAt, edgeOf, ruleEdge};
 
 // Says whether a spot is at an end.
 fn at_end(spot: Spot) -> bool
@@ -51,7 +51,7 @@ fn edge_at(shape: Shape, list: &[u32], i: u16, header: &[u32; 8]) -> bool
 // Says whether a rule has a field at an end of its range, one of the d fields: false where d is not 1 to 8 or the list has
 // no such rule.
 pub fn rule_edge(shape: Shape, list: &[u32], rule: u16, header: [u32; 8]) -> bool
-    ensures { λ r. ⌜ r ≡ edgeIn (listed shape (now (list .entry))) header rule ⌝ }
+    ensures { λ r. ⌜ r ≡ ruleEdge (listed shape (now (list .entry))) header rule ⌝ }
 {
     if !in_list(shape, list, rule) {
         return false;

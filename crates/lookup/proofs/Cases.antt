@@ -1,6 +1,7 @@
 -- 01, A small bench list: the marked cases B1 to B12, as one table of rows and one statement about the definitions.
 -- A row has its mark, what a definition gives, and what 01 writes; both as numbers. Of a lookup these are what the answer says in the
--- paper's words (`saysLooked`): the refusal's number and place, then 1, the rule and the tests, or 0 and the tests.
+-- paper's words (`saysLooked`): the refusal's number and place, then 1, the rule, the tests and 1 at an edge, or 0, the tests and 0. 01 writes
+-- no edge: by 02, W2, each of B2 to B6 is at one, 7-7, 8-8 or 0-9 being met at an end, and B7 and B8 find none.
 -- B9's "any header" is no row: it is said of every header, beside the table. B10 to B12 are about prefixes (`ranges`).
 -- Assumes nothing.
 use Prim.Native.Nat.{ℕ}
@@ -8,7 +9,7 @@ use mathlib.Core.Bool.{Bool, true}
 use mathlib.Core.List.{List, [], _∷_}
 use mathlib.Core.Path.{_≡_, refl}
 use lib.Dec.{T}
-use Rattle.ranges.specs.Numbers.{_and_, sameList, all, count, least, greatest, tab}
+use Rattle.ranges.specs.Numbers.{_and_, sameList, all, any, count, least, greatest, tab}
 use Rattle.ranges.specs.Refusals.{Said}
 use Rattle.ranges.specs.Spots.{spotOf}
 use Rattle.ranges.specs.Sides.{endOf, sideOf}
@@ -16,6 +17,7 @@ use Rattle.ranges.specs.Prefixes.{prefixFault, boundsOf, saysBounds}
 use Rattle.ranges.specs.Blocks.{blockFits, blockOf, prefixesFrom, prefixesOf, flat}
 use Rattle.lists.specs.Rules.{rulesIn, offsetOf, lowOf, highOf, endsAt}
 use Rattle.lists.specs.FirstMatch.{fits}
+use Rattle.lists.specs.Edges.{edgeOf}
 use Rattle.lists.specs.Faults.{shapeFault}
 use Rattle.ranges.specs.Standings.{standingOf}
 use Rattle.ordering.specs.Order.{compare}
@@ -45,12 +47,12 @@ hold (r ∷ rs) = sameList (r .found) (r .written) and hold rs
 abbrev numbers : Said → List ℕ
 numbers s = s .number ∷ s .at ∷ s .then ∷ s .answer
 
--- a rule and the tests; none and the tests
+-- a rule at an edge and the tests; none and the tests
 abbrev rule : ℕ → ℕ → List ℕ
-rule i t = 0 ∷ 0 ∷ 0 ∷ 1 ∷ i ∷ t ∷ []
+rule i t = 0 ∷ 0 ∷ 0 ∷ 1 ∷ i ∷ t ∷ 1 ∷ []
 
 abbrev nothing : ℕ → List ℕ
-nothing t = 0 ∷ 0 ∷ 0 ∷ 0 ∷ t ∷ []
+nothing t = 0 ∷ 0 ∷ 0 ∷ 0 ∷ t ∷ 0 ∷ []
 
 -- ---- a header of two numbers, looked up in the bench table; the other six alter nothing
 abbrev asked : ℕ → ℕ → List ℕ
@@ -76,5 +78,5 @@ cases =
 
 -- the one statement: every row of the table holds, and in the table of no rules any header at all finds none, with 0 tests (B9)
 pub cases-hold : T (hold cases) × ((h : List ℕ) → lookupOf empty emptyTable h ≡ Nothing 0)
-unfolding cases all count least greatest tab endOf spotOf sideOf rulesIn offsetOf lowOf highOf endsAt fits shapeFault standingOf compare fitOf firstFit parts tableLength orderAt startAt fromAt toAt rowOf placeOf ruleAt startOf runFrom runTo tableOf opening openFault runStands stepAt arrivedOf walkFrom visitOf lookupFrom lookupOf prefixesOf prefixesFrom blockOf blockFits prefixFault
+unfolding cases all any count least greatest tab endOf spotOf sideOf rulesIn offsetOf lowOf highOf endsAt fits edgeOf shapeFault standingOf compare fitOf firstFit parts tableLength orderAt startAt fromAt toAt rowOf placeOf ruleAt startOf runFrom runTo tableOf opening openFault runStands stepAt arrivedOf walkFrom visitOf lookupFrom lookupOf prefixesOf prefixesFrom blockOf blockFits prefixFault
 cases-hold = (tt, λ h. refl)

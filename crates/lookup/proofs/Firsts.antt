@@ -125,16 +125,16 @@ module _ {R : Rules} {v : View} (h : List ℕ) (promise : Promise R v) where
           better-hit best (v .order p) (f .found) (f .finds p (subst (λ k. InPart v k p) is in-r) fit)
 
   -- ---- all partitions in order
-  from-first : (k q best t : ℕ) → q + k ≡ v .b → Best q best → (u : ℕ) × (lookupFrom R v h k q best t ≡ answerOf R (firstMatch R h) u)
+  from-first : (k q best t : ℕ) → q + k ≡ v .b → Best q best → (u : ℕ) × (lookupFrom R v h k q best t ≡ answerOf R h (firstMatch R h) u)
   from-first zero q best t is named =
       let at-b : q ≡ v .b = omega arith in
-      (t, from-none R v h q best t ∙ ap (λ m. answerOf R m t) (best-first best (subst (λ k. Best k best) at-b named)))
+      (t, from-none R v h q best t ∙ ap (λ m. answerOf R h m t) (best-first best (subst (λ k. Best k best) at-b named)))
   from-first (suc k) q best t is named =
       let f = visit-finds q (omega arith) in
       let rest = from-first k (suc q) (better best (f .found)) (t + f .tests) (omega arith) (best-more q best named f) in
       (rest .0, from-on R v h k q best t (f .found) (f .tests) (f .is) ∙ rest .1)
 
-  pub search-first : (u : ℕ) × (searchOf R v h ≡ answerOf R (firstMatch R h) u)
+  pub search-first : (u : ℕ) × (searchOf R v h ≡ answerOf R h (firstMatch R h) u)
   search-first =
       from-first (v .b) 0 (rulesIn R) 0 (omega arith)
       record {
@@ -153,7 +153,7 @@ module _ (R : Rules) (T : List ℕ) (shape : Shaped R) (sized : TableFor (rulesI
       (opening-last (rulesIn R) (fieldsOf R) v (promise .rules) (promise .fields) (parts-few promise) (promise .first-start)
       ∙ eq-eqb (v .start (v .b)) (rulesIn R) (promise .last-start))
 
-  pub lookup-first : (h : List ℕ) → (u : ℕ) × (lookupOf R T h ≡ answerOf R (firstMatch R h) u)
+  pub lookup-first : (h : List ℕ) → (u : ℕ) × (lookupOf R T h ≡ answerOf R h (firstMatch R h) u)
   lookup-first h =
       let found = search-first h promise in
       (found .0, lookup-searches R T h (ap (λ x. x .number) promise-opens) ∙ found .1)

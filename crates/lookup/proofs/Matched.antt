@@ -1,5 +1,5 @@
--- An answer made at the first match (`answerOf`), by which rules fit: it is rule i exactly when i is the first that fits, and none exactly
--- when no rule does. w is the answer, and u the tests that it carries.
+-- An answer made at the first match (`answerOf`), by which rules fit: it is rule i, with its edge, exactly when i is the first that fits, and
+-- none exactly when no rule does. w is the answer, and u the tests that it carries.
 --     NoneFits                            no rule of the list fits
 --     matched-rule-iff, matched-none-iff  a rule; none
 -- Assumes nothing.
@@ -15,6 +15,7 @@ use Rattle.ranges.specs.Numbers.{least}
 use Rattle.ranges.proofs.Numbers.{never, picked, not-picked, least-is, least-none, least-hit, least-under}
 use Rattle.lists.specs.Rules.{Rules, rulesIn}
 use Rattle.lists.specs.FirstMatch.{fits, firstMatch}
+use Rattle.lists.specs.Edges.{edgeOf}
 use Rattle.lists.proofs.Theorems.{First}
 use Rattle.lookup.specs.Lookup.{answerOf}
 use Rattle.lookup.specs.declared.lookup.Looked.{Looked}
@@ -24,8 +25,8 @@ use Rattle.lookup.specs.declared.lookup.Looked.the-variants.{Rule, Nothi
 abbrev pub NoneFits : Rules → List ℕ → Type 0
 NoneFits R h = (i : ℕ) → i < rulesIn R → fits R h i ≡ false
 
-module _ (R : Rules) (h : List ℕ) (w : Looked) (u : ℕ) (is-w : w ≡ answerOf R (firstMatch R h) u) where
-  pub matched-rule-iff : (i : ℕ) → ((t : ℕ) × (w ≡ Rule i t)) ↔ First R h i
+module _ (R : Rules) (h : List ℕ) (w : Looked) (u : ℕ) (is-w : w ≡ answerOf R h (firstMatch R h) u) where
+  pub matched-rule-iff : (i : ℕ) → ((t : ℕ) × (w ≡ Rule i t (edgeOf R h i))) ↔ First R h i
   unfolding firstMatch
   matched-rule-iff i = (λ found. to (found .0) (found .1), λ first. (u, fro first))
     where
@@ -35,15 +36,15 @@ module _ (R : Rules) (h : List ℕ) (w : Looked) (u : ℕ) (is-w : w ≡ answerO
       i₀ : ℕ
       i₀ = least n (fits R h)
 
-      to : (t : ℕ) → w ≡ Rule i t → First R h i
+      to : (t : ℕ) → w ≡ Rule i t (edgeOf R h i) → First R h i
       to t is =
-          let told = picked (Rule i₀ u) (Nothing u) (Rule i t) (ltb i₀ n) (sym is-w ∙ is) (λ r. never (cc)) in
+          let told = picked (Rule i₀ u (edgeOf R h i₀)) (Nothing u) (Rule i t (edgeOf R h i)) (ltb i₀ n) (sym is-w ∙ is) (λ r. never (cc)) in
           let is-i : i₀ ≡ i = cc (told .1) in
           let lt = ltb-true i₀ n (told .0) in
           let first : First R h i₀ = record { rule = lt; here = least-hit (fits R h) n lt; before = least-under (fits R h) n } in
           rw is-i at first
 
-      fro : First R h i → w ≡ Rule i u
+      fro : First R h i → w ≡ Rule i u (edgeOf R h i)
       fro first = is-w ∙ rw (least-is (fits R h) n i (first .rule) (first .here) (first .before), lt-ltb i n (first .rule))
 
   pub matched-none-iff : ((t : ℕ) × (w ≡ Nothing t)) ↔ NoneFits R h
@@ -58,7 +59,7 @@ module _ (R : Rules) (h : List ℕ) (w : Looked) (u : ℕ) (is-w : w ≡ answerO
 
       to : (t : ℕ) → w ≡ Nothing t → NoneFits R h
       to t is i lt =
-          let told = not-picked (Rule i₀ u) (Nothing u) (Nothing t) (ltb i₀ n) (sym is-w ∙ is) (λ r. never (cc)) in
+          let told = not-picked (Rule i₀ u (edgeOf R h i₀)) (Nothing u) (Nothing t) (ltb i₀ n) (sym is-w ∙ is) (λ r. never (cc)) in
           let over = ltb-false i₀ n (told .0) in
           least-under (fits R h) n i (omega arith)
 

@@ -4,10 +4,11 @@
 -- place, and one test a field is inside.
 --     ladder-rules, ladder-low, ladder-ends, ladder-stands      the list
 --     ladder-parts                                              its one partition
---     ladder-reaches                                            its lookup makes d + k tests
+--     ladder-reaches                                            its lookup makes d + k tests, and finds rule 0 at an end
 -- Assumes nothing.
 use Prim.Native.Nat.{ℕ, zero, suc, _+_, _-_, _*_, _/_, _%_, min, _≤_, _<_}
 use mathlib.Core.Bool.{Bool, true, false}
+use mathlib.Core.Logic.{inl}
 use mathlib.Core.Path.{_≡_, refl, sym, ap, _∙_}
 use native.Mathlib.Omega.{arith}
 use native.Mathlib.Nat.{mul-assoc, mul-div-cancel, div-eq-of-lt-le}
@@ -26,6 +27,8 @@ use Rattle.ranges.proofs.Sides.{side-below, side-inside}
 use Rattle.lists.specs.Limits.{mostRules}
 use Rattle.lists.specs.Rules.{rulesIn, offsetOf, lowOf, highOf, endsAt}
 use Rattle.lists.specs.FirstMatch.{sideAt, insideAt, fits}
+use Rattle.lists.specs.Edges.{edgeOf}
+use Rattle.lists.proofs.Edges.{edge-at-iff}
 use Rattle.lists.specs.Faults.{shapeFault, listFault}
 use Rattle.lists.proofs.Rules.{row-inside}
 use Rattle.lists.proofs.Faults.{shape-stands, shaped}
@@ -312,7 +315,21 @@ module _ (d m : ℕ) (some : 1 ≤ d) (few : d ≤ 8) (rules : 1 ≤ m) (v : Vie
       ∙ walk-ladder j (suc (rulesIn R + d)) m 0 power (omega arith) (omega (arith, n-is))
       ∙ ap (Ran (Hit 0)) count
 
-  search-ladder : (j : ℕ) → PowerWithin m j → searchOf (ladder d m) v zeros ≡ Rule 0 (d + j)
+  -- 0 is the low end of rule 0 in every field
+  first-edge : edgeOf (ladder d m) zeros 0 ≡ true
+  first-edge =
+      let R = ladder d m in
+      let is-low = ladder-low d m some 0 0 rules some in
+      let is-past = ladder-ends d m some 0 0 rules some in
+      let is-zero = zero-at 0 some in
+      edge-at-iff R zeros 0 .1
+      record {
+        field = 0;
+        in-row = some;
+        edge = record { from-low = omega arith; to-past = omega arith; end = inl (omega arith) };
+      }
+
+  search-ladder : (j : ℕ) → PowerWithin m j → searchOf (ladder d m) v zeros ≡ Rule 0 (d + j) true
   search-ladder j power =
       let R = ladder d m in
       let n = rulesIn R in
@@ -322,13 +339,13 @@ module _ (d m : ℕ) (some : 1 ≤ d) (few : d ≤ 8) (rules : 1 ≤ m) (v : Vie
       ap (λ b. lookupFrom R v zeros b 0 n 0) one
       ∙ from-on R v zeros 0 0 n 0 (Hit 0) (d + j) (visit-ladder j power)
       ∙ from-none R v zeros 1 (min n 0) (0 + (d + j))
-      ∙ ap (λ b. answerOf R b (0 + (d + j))) first
-      ∙ ap (λ t. answerOf R 0 t) count
-      ∙ rw (lt-ltb 0 n under)
+      ∙ ap (λ b. answerOf R zeros b (0 + (d + j))) first
+      ∙ ap (λ t. answerOf R zeros 0 t) count
+      ∙ rw (lt-ltb 0 n under, first-edge)
 
 -- ---- build, then lookup
 pub ladder-reaches : (d m k : ℕ) → 1 ≤ d → d ≤ 8 → 1 ≤ m → m ≤ mostRules → PowerWithin m k
-    → lookupOf (ladder d m) (builtTable (ladder d m)) zeros ≡ Rule 0 (d + k)
+    → lookupOf (ladder d m) (builtTable (ladder d m)) zeros ≡ Rule 0 (d + k) true
 ladder-reaches d m k some few rules few-rules power =
     let R = ladder d m in
     let promise = built-keeps-promise R (ladder-sound d m some) in

@@ -19,6 +19,7 @@ use Rattle.ranges.specs.declared.refusal.Refusal.{Refusal}
 use Rattle.ranges.proofs.Numbers.{never}
 use Rattle.lists.specs.Limits.{mostRules}
 use Rattle.lists.specs.Rules.{Rules, fieldsOf, rulesIn}
+use Rattle.lists.specs.Edges.{edgeOf}
 use Rattle.lists.specs.Faults.{shapeFault}
 use Rattle.tables.specs.Layout.{View, tableLength}
 use Rattle.tables.specs.Opening.{opening, viewOf, openFault}
@@ -65,10 +66,10 @@ open-by R T =
     go false false true false true true ne = never (cc)
 
 module _ (R : Rules) (v : View) (h : List ℕ) where
-  answer-not : (best t : ℕ) (x : Refusal) → answerOf R best t ≡ Refused x → ⊥
+  answer-not : (best t : ℕ) (x : Refusal) → answerOf R h best t ≡ Refused x → ⊥
   answer-not best t x = go (ltb best (rulesIn R))
     where
-      go : (p : Bool) → pick p (Rule best t) (Nothing t) ≡ Refused x → ⊥
+      go : (p : Bool) → pick p (Rule best t (edgeOf R h best)) (Nothing t) ≡ Refused x → ⊥
       go true is = never (cc)
       go false is = never (cc)
 
@@ -175,7 +176,7 @@ module _ (R : Rules) (T h : List ℕ) (opens : openFault R T .number ≡ 0) wher
   lookup-fine fine = go (lookupOf R T h) refl
     where
       go : (w : Looked) → lookupOf R T h ≡ w → refuses w ≡ false
-      go (Rule i t) is = refl
+      go (Rule i t e) is = refl
       go (Nothing t) is = refl
       go (Refused x) is =
           let first = lookup-stopped x is in

@@ -1,7 +1,7 @@
--- A rule that a lookup returns is one of the list and fits the header, whatever the table.
--- A walk names only such a rule (`Named.antt`), and the smallest candidate of several is one of them.
+-- A rule that a lookup returns is one of the list and fits the header, and the edge is that rule's own, whatever the table.
+-- A walk names only such a rule (`Named.antt`), the smallest candidate of several is one of them, and the edge is worked out from it.
 --     visit-fits                       of a partition
---     rule-fits                        of a lookup
+--     Returned, rule-returned          of a lookup
 -- Assumes nothing.
 use Prim.Native.Nat.{ℕ, zero, suc, _+_, min, _<_}
 use mathlib.Core.Bool.{Bool, true, false}
@@ -14,6 +14,7 @@ use Rattle.ranges.specs.Numbers.{pick}
 use Rattle.ranges.specs.Refusals.{stands}
 use Rattle.ranges.proofs.Numbers.{never}
 use Rattle.lists.specs.Rules.{Rules, rulesIn}
+use Rattle.lists.specs.Edges.{edgeOf}
 use Rattle.tables.specs.Layout.{View}
 use Rattle.tables.specs.Opening.{viewOf, openFault}
 use Rattle.lookup.specs.Lookup.{visitOf, better, afterVisit, lookupFrom, searchOf, lookupOf}
@@ -24,6 +25,11 @@ use Rattle.lookup.specs.declared.walk.Walked.the-variants.{Ran, Broken}
 use Rattle.lookup.specs.declared.lookup.Looked.the-variants.{Rule, Nothing, Refused}
 use Rattle.lookup.proofs.Named.{Matches, walk-fits}
 use Rattle.lookup.proofs.Visits.{visited-walks}
+
+-- what a rule i that is returned with edge e is: one of the list, which fits, and e is its own
+pub record Returned (R : Rules) (h : List ℕ) (i : ℕ) (e : Bool) : Type 0 where
+  pub matches : Matches R h i
+  pub edge : e ≡ edgeOf R h i
 
 -- ---- a partition
 module _ (R : Rules) (v : View) (h : List ℕ) where
@@ -46,29 +52,30 @@ module _ (R : Rules) (v : View) (h : List ℕ) where
           let is : min best i ≡ best = omega arith in
           rw is (kept (rw is at lt))
 
-  from-fits : (k q best t : ℕ) → (best < rulesIn R → Matches R h best) → (i u : ℕ) → lookupFrom R v h k q best t ≡ Rule i u → Matches R h i
+  from-fits : (k q best t : ℕ) → (best < rulesIn R → Matches R h best) → (i u : ℕ) (e : Bool) → lookupFrom R v h k q best t ≡ Rule i u e → Returned R h i e
   unfolding lookupFrom
-  from-fits zero q best t kept i u = go (ltb best (rulesIn R)) refl
+  from-fits zero q best t kept i u e = go (ltb best (rulesIn R)) refl
     where
-      go : (p : Bool) → ltb best (rulesIn R) ≡ p → pick p (Rule best t) (Nothing t) ≡ Rule i u → Matches R h i
-      go true e is =
-          let is-i : i ≡ best = cc in
-          rw is-i (kept (ltb-true best (rulesIn R) e))
-      go false e is = never (cc)
-  from-fits (suc k) q best t kept i u = go (visitOf R v h q) refl (from-fits k)
+      go : (p : Bool) → ltb best (rulesIn R) ≡ p → pick p (Rule best t (edgeOf R h best)) (Nothing t) ≡ Rule i u e → Returned R h i e
+      go true under is =
+          let is-i : best ≡ i = cc in
+          let is-edge : e ≡ edgeOf R h best = cc in
+          record { matches = rw is-i at (kept (ltb-true best (rulesIn R) under)); edge = rw is-i at is-edge }
+      go false past is = never (cc)
+  from-fits (suc k) q best t kept i u e = go (visitOf R v h q) refl (from-fits k)
     where
       go : (w : Walked) → visitOf R v h q ≡ w
-          → ((q best t : ℕ) → (best < rulesIn R → Matches R h best) → (i u : ℕ) → lookupFrom R v h k q best t ≡ Rule i u → Matches R h i)
-          → afterVisit w (λ x u. lookupFrom R v h k (suc q) (better best x) (t + u)) ≡ Rule i u → Matches R h i
+          → ((q best t : ℕ) → (best < rulesIn R → Matches R h best) → (i u : ℕ) (e : Bool) → lookupFrom R v h k q best t ≡ Rule i u e → Returned R h i e)
+          → afterVisit w (λ x u. lookupFrom R v h k (suc q) (better best x) (t + u)) ≡ Rule i u e → Returned R h i e
       go Broken at rest is = never (cc)
       go (Ran x w) at rest is =
-          rest (suc q) (better best x) (t + w) (sooner-fits best x kept (λ j is-x. visit-fits q j w (at ∙ ap (λ y. Ran y w) is-x))) i u is
+          rest (suc q) (better best x) (t + w) (sooner-fits best x kept (λ j is-x. visit-fits q j w (at ∙ ap (λ y. Ran y w) is-x))) i u e is
 
 -- ---- a lookup
-pub rule-fits : (R : Rules) (T h : List ℕ) (i u : ℕ) → lookupOf R T h ≡ Rule i u → Matches R h i
+pub rule-returned : (R : Rules) (T h : List ℕ) (i u : ℕ) (e : Bool) → lookupOf R T h ≡ Rule i u e → Returned R h i e
 unfolding lookupOf
-rule-fits R T h i u = go (stands (openFault R T)) refl
+rule-returned R T h i u e = go (stands (openFault R T)) refl
   where
-    go : (p : Bool) → stands (openFault R T) ≡ p → pick p (searchOf R (viewOf R T) h) (Refused (openFault R T)) ≡ Rule i u → Matches R h i
-    go true e is = from-fits R (viewOf R T) h (viewOf R T .b) 0 (rulesIn R) 0 (λ lt. absurd (omega arith)) i u is
-    go false e is = never (cc)
+    go : (p : Bool) → stands (openFault R T) ≡ p → pick p (searchOf R (viewOf R T) h) (Refused (openFault R T)) ≡ Rule i u e → Returned R h i e
+    go true opens is = from-fits R (viewOf R T) h (viewOf R T .b) 0 (rulesIn R) 0 (λ lt. absurd (omega arith)) i u e is
+    go false shut is = never (cc)

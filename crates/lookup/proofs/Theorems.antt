@@ -5,13 +5,15 @@
 --        (the contract)                   the lookup is `lookupOf`, for all lists, tables and headers, and it ends
 --        walk-enough                      a walk does not depend on how many tests it may make, once they are enough: it never ends for want of them
 --        returned-rule-fits               a rule returned is one of the list and fits the header, whatever the table
---        refusal-carries-nothing          a refusal carries no match and a count of 0
+--        edge-is-the-winners              the edge returned with it is that rule's own, whatever the table
+--        refusal-carries-nothing          a refusal carries no match, a count of 0 and no edge
+--        none-has-no-edge                 nor has an answer that no rule fits
 --        refused-by-a-row                 it is 1, 2, 3, 5 or 6 with place 0, and never 4
 --        opening-refuses                  1, 2, 3, 5 and 6 for the opening come first, in this order
 --        broken-partition-refuses         else a partition that is broken, in the paper's own conditions, refuses the whole call with 6 ..
 --        nothing-else-refuses             .. and nothing else does
 --        refuses-6-iff                    so of a table that opens 6 is given exactly where some partition is broken, and none before it
---        numbers-past-d-unread            headers that agree on the first d numbers get the same answer
+--        numbers-past-d-unread            headers that agree on the first d numbers get the same answer, edge and all
 --     2. The match is the first match.
 --        lookup-is-first-match            of a table that keeps the promise: never a refusal, and the first match
 --        lookup-rule-iff                  of such a table: rule i exactly when i is the first rule that fits ..
@@ -31,7 +33,7 @@
 -- The marked cases B1 to B12 are in `Cases.antt`; that two answers that a contract allows are equal is in `Determined.antt`.
 -- Assumes nothing.
 use Prim.Native.Nat.{ℕ, suc, _+_, _-_, _≤_, _<_}
-use mathlib.Core.Bool.{true, false}
+use mathlib.Core.Bool.{Bool, true, false}
 use mathlib.Core.List.{List, []}
 use mathlib.Core.Logic.{_↔_}
 use mathlib.Core.Path.{_≡_, sym, ap, _∙_}
@@ -42,6 +44,7 @@ use Rattle.ranges.specs.declared.refusal.Count.the-variants.{Is as CountIs}
 use Rattle.lists.specs.Limits.{mostRules}
 use Rattle.lists.specs.Rules.{Rules, fieldsOf, rulesIn}
 use Rattle.lists.specs.FirstMatch.{fits, firstMatch}
+use Rattle.lists.specs.Edges.{edgeOf}
 use Rattle.lists.specs.Faults.{listFault}
 use Rattle.lists.proofs.Rules.{Shaped}
 use Rattle.lists.proofs.Theorems.{First}
@@ -57,13 +60,13 @@ use Rattle.sorting.proofs.Sorted.Kept.{choice-keeps-promise}
 use Rattle.sorting.proofs.Sorted.Built.{built-keeps-promise, list-keeps-promise}
 use Rattle.sorting.proofs.Theorems.{build-is-b-iff, built-table}
 use Rattle.lookup.specs.Walk.{walkFrom}
-use Rattle.lookup.specs.Lookup.{visitOf, answerOf, lookupOf, matchIn, testsIn}
+use Rattle.lookup.specs.Lookup.{visitOf, answerOf, lookupOf, matchIn, testsIn, edgeIn}
 use Rattle.lookup.specs.Bounds.{PowerWithin, testsOf, sumFrom, refuses, ladder}
 use Rattle.lists.specs.Headers.{zeros}
 use Rattle.lookup.specs.declared.lookup.Looked.{Looked}
 use Rattle.lookup.specs.declared.lookup.Looked.the-variants.{Rule, Nothing, Refused}
 use Rattle.lookup.proofs.Enough.{enough-one}
-use Rattle.lookup.proofs.Returned.{rule-fits}
+use Rattle.lookup.proofs.Returned.{rule-returned}
 use Rattle.lookup.proofs.Unread.{Agree, lookup-same}
 use Rattle.lookup.proofs.Brokens.{BrokenPart}
 use Rattle.lookup.proofs.Refusing.{RefusedBy, refused-by, FirstBroken, lookup-broken, lookup-fine, lookup-6-iff}
@@ -82,12 +85,20 @@ walk-enough = enough-one
 
 module _ (R : Rules) (T h : List ℕ) where
   -- who acts on a rule returned may rely on it, even if the table is damaged
-  pub returned-rule-fits : (i t : ℕ) → lookupOf R T h ≡ Rule i t → (i < rulesIn R) × (fits R h i ≡ true)
-  returned-rule-fits i t is = let m = rule-fits R T h i t is in (m .rule, m .fit)
+  pub returned-rule-fits : (i t : ℕ) (e : Bool) → lookupOf R T h ≡ Rule i t e → (i < rulesIn R) × (fits R h i ≡ true)
+  returned-rule-fits i t e is = let m = rule-returned R T h i t e is .matches in (m .rule, m .fit)
+
+  -- the edge speaks of the rule returned with it, and of no candidate that lost
+  pub edge-is-the-winners : (i t : ℕ) (e : Bool) → lookupOf R T h ≡ Rule i t e → e ≡ edgeOf R h i
+  edge-is-the-winners i t e is = rule-returned R T h i t e is .edge
 
   -- a refusal can't be taken for an answer
-  pub refusal-carries-nothing : (x : Refusal) → lookupOf R T h ≡ Refused x → (matchIn (lookupOf R T h) ≡ []) × (testsIn (lookupOf R T h) ≡ 0)
-  refusal-carries-nothing x is = (ap matchIn is, ap testsIn is)
+  pub refusal-carries-nothing : (x : Refusal) → lookupOf R T h ≡ Refused x
+      → (matchIn (lookupOf R T h) ≡ []) × (testsIn (lookupOf R T h) ≡ 0) × (edgeIn (lookupOf R T h) ≡ false)
+  refusal-carries-nothing x is = (ap matchIn is, ap testsIn is, ap edgeIn is)
+
+  pub none-has-no-edge : (t : ℕ) → lookupOf R T h ≡ Nothing t → edgeIn (lookupOf R T h) ≡ false
+  none-has-no-edge t is = ap edgeIn is
 
   -- no refusal is given for another cause
   pub refused-by-a-row : (x : Refusal) → lookupOf R T h ≡ Refused x → RefusedBy x
@@ -116,16 +127,16 @@ numbers-past-d-unread = lookup-same
 -- ---- 2. the match is the first match
 -- the promise is all that the lookup layer relies on: whoever keeps it gets first match, however the table was made
 pub lookup-is-first-match : (R : Rules) (T : List ℕ) → Shaped R → TableFor (rulesIn R) (fieldsOf R) T → Promise R (viewOf R T) → (h : List ℕ)
-    → lookupOf R T h ≡ answerOf R (firstMatch R h) (testsIn (lookupOf R T h))
+    → lookupOf R T h ≡ answerOf R h (firstMatch R h) (testsIn (lookupOf R T h))
 lookup-is-first-match R T shape sized promise h =
     let found = lookup-first R T shape sized promise h in
     let t = found .0 in
-    let tests : t ≡ testsIn (lookupOf R T h) = sym (ap testsIn (found .1) ∙ answer-tests R (firstMatch R h) t) in
-    found .1 ∙ ap (answerOf R (firstMatch R h)) tests
+    let tests : t ≡ testsIn (lookupOf R T h) = sym (ap testsIn (found .1) ∙ answer-tests R h (firstMatch R h) t) in
+    found .1 ∙ ap (answerOf R h (firstMatch R h)) tests
 
 -- so such a table answers rule i exactly when i is the first rule that fits, and none exactly when no rule fits
 module _ (R : Rules) (T : List ℕ) (shape : Shaped R) (sized : TableFor (rulesIn R) (fieldsOf R) T) (promise : Promise R (viewOf R T)) (h : List ℕ) where
-  pub lookup-rule-iff : (i : ℕ) → ((t : ℕ) × (lookupOf R T h ≡ Rule i t)) ↔ First R h i
+  pub lookup-rule-iff : (i : ℕ) → ((t : ℕ) × (lookupOf R T h ≡ Rule i t (edgeOf R h i))) ↔ First R h i
   lookup-rule-iff = matched-rule-iff R h (lookupOf R T h) (testsIn (lookupOf R T h)) (lookup-is-first-match R T shape sized promise h)
 
   pub lookup-none-iff : ((t : ℕ) × (lookupOf R T h ≡ Nothing t)) ↔ NoneFits R h
@@ -134,17 +145,17 @@ module _ (R : Rules) (T : List ℕ) (shape : Shaped R) (sized : TableFor (rulesI
 -- a list that the build does not refuse
 module _ (R : Rules) (fine : listFault R .number ≡ 0) where
   pub choice-then-lookup : (run : List ℕ) (b : ℕ) → Choice R run b → (h : List ℕ)
-      → lookupOf R (tableOf R run) h ≡ answerOf R (firstMatch R h) (testsIn (lookupOf R (tableOf R run) h))
+      → lookupOf R (tableOf R run) h ≡ answerOf R h (firstMatch R h) (testsIn (lookupOf R (tableOf R run) h))
   choice-then-lookup run b choice =
       lookup-is-first-match R (tableOf R run) (list-shaped R fine) (table-sized R run) (choice-keeps-promise (list-sound R fine) choice)
 
-  pub built-lookup : (h : List ℕ) → lookupOf R (builtTable R) h ≡ answerOf R (firstMatch R h) (testsIn (lookupOf R (builtTable R) h))
+  pub built-lookup : (h : List ℕ) → lookupOf R (builtTable R) h ≡ answerOf R h (firstMatch R h) (testsIn (lookupOf R (builtTable R) h))
   built-lookup = lookup-is-first-match R (builtTable R) (list-shaped R fine) (table-sized R (firstFit R (rulesIn R))) (list-keeps-promise R fine)
 
 -- whatever list and table a build was handed: where it answered a number of partitions, and so refused nothing, the table that it left
 -- gives every header its first match
 pub build-then-lookup : (R : Rules) (T : List ℕ) (b : ℕ) → buildOf R T ≡ CountIs b → (h : List ℕ)
-    → lookupOf R (tableAfter R T) h ≡ answerOf R (firstMatch R h) (testsIn (lookupOf R (tableAfter R T) h))
+    → lookupOf R (tableAfter R T) h ≡ answerOf R h (firstMatch R h) (testsIn (lookupOf R (tableAfter R T) h))
 build-then-lookup R T b answered h =
     let able = build-is-b-iff R T b .0 answered .0 in
     rw (built-table R T able) (built-lookup R (able .no-fault) h)
@@ -155,7 +166,7 @@ module _ (R : Rules) (T : List ℕ) (b : ℕ) (answered : buildOf R T ≡ CountI
   abbrev found : Looked
   found = lookupOf R (tableAfter R T) h
 
-  pub built-rule-iff : (i : ℕ) → ((t : ℕ) × (lookupOf R (tableAfter R T) h ≡ Rule i t)) ↔ First R h i
+  pub built-rule-iff : (i : ℕ) → ((t : ℕ) × (lookupOf R (tableAfter R T) h ≡ Rule i t (edgeOf R h i))) ↔ First R h i
   built-rule-iff = matched-rule-iff R h found (testsIn found) (build-then-lookup R T b answered h)
 
   pub built-none-iff : ((t : ℕ) × (lookupOf R (tableAfter R T) h ≡ Nothing t)) ↔ NoneFits R h
@@ -198,7 +209,7 @@ pub record Reached (d m k : ℕ) : Type 0 where
   pub rules : rulesIn (ladder d m) ≡ m
   pub one-part : viewOf (ladder d m) (builtTable (ladder d m)) .b ≡ 1
   pub of-all : viewOf (ladder d m) (builtTable (ladder d m)) .start 1 ≡ m
-  pub tests : lookupOf (ladder d m) (builtTable (ladder d m)) zeros ≡ Rule 0 (d + k)
+  pub tests : lookupOf (ladder d m) (builtTable (ladder d m)) zeros ≡ Rule 0 (d + k) true
 
 pub bound-is-reached : (d m k : ℕ) → 1 ≤ d → d ≤ 8 → 1 ≤ m → m ≤ mostRules → PowerWithin m k → Reached d m k
 bound-is-reached d m k some few rules few-rules power =

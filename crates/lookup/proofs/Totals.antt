@@ -17,6 +17,7 @@ use borrow.Author.Tests.{le-ltb, ltb-true, ltb-false, eqb-true}
 use Rattle.ranges.specs.Numbers.{pick}
 use Rattle.ranges.proofs.Numbers.{never}
 use Rattle.lists.specs.Rules.{Rules, fieldsOf, rulesIn}
+use Rattle.lists.specs.Edges.{edgeOf}
 use Rattle.tables.specs.Layout.{View}
 use Rattle.tables.specs.Opening.{viewOf, openFault}
 use Rattle.tables.proofs.Opened.{opened}
@@ -64,10 +65,10 @@ sum-le (suc k) q g f h =
     omega arith
 
 -- ---- the count
-pub answer-tests : (R : Rules) (best t : ℕ) → testsIn (answerOf R best t) ≡ t
-answer-tests R best t = go (ltb best (rulesIn R))
+pub answer-tests : (R : Rules) (h : List ℕ) (best t : ℕ) → testsIn (answerOf R h best t) ≡ t
+answer-tests R h best t = go (ltb best (rulesIn R))
   where
-    go : (p : Bool) → testsIn (pick p (Rule best t) (Nothing t)) ≡ t
+    go : (p : Bool) → testsIn (pick p (Rule best t (edgeOf R h best)) (Nothing t)) ≡ t
     go true = refl
     go false = refl
 
@@ -78,7 +79,7 @@ module _ (R : Rules) (v : View) (h : List ℕ) where
 
   from-sum : (k q best t : ℕ) → refuses (lookupFrom R v h k q best t) ≡ false → testsIn (lookupFrom R v h k q best t) ≡ t + sumFrom k q added
   unfolding lookupFrom sumFrom
-  from-sum zero q best t fine = omega (arith, answer-tests R best t)
+  from-sum zero q best t fine = omega (arith, answer-tests R h best t)
   from-sum (suc k) q best t fine = go (visitOf R v h q) (from-sum k) fine
     where
       go : (w : Walked) → ((q best t : ℕ) → refuses (lookupFrom R v h k q best t) ≡ false → testsIn (lookupFrom R v h k q best t) ≡ t + sumFrom k q added)

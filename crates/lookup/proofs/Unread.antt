@@ -1,6 +1,6 @@
 -- Only the first d numbers of a header are read: two headers that agree on them get the same answer.
--- Every test reads the number of a field below d, and the confirming comparison reads those of all d fields; so step by step the two
--- walks are one.
+-- Every test reads the number of a field below d, and the confirming comparison and the edge read those of all d fields; so step by step
+-- the two walks are one.
 --     step-same, arrived-same, walk-same, visit-same, from-same      step by step
 --     lookup-same                                                    the lookup
 -- Assumes nothing.
@@ -14,6 +14,7 @@ use borrow.Author.Tests.{leb-false}
 use Rattle.ranges.specs.Numbers.{pick}
 use Rattle.lists.specs.Rules.{Rules, fieldsOf, rulesIn}
 use Rattle.lists.proofs.Fitting.{fits-same}
+use Rattle.lists.proofs.Edges.{edge-same}
 use Rattle.tables.specs.Layout.{View}
 use Rattle.tables.specs.Opening.{viewOf}
 use Rattle.lookup.specs.Walk.{stepAt, stepOf, afterStep, arrivedOf, walkFrom}
@@ -56,7 +57,7 @@ module _ (R : Rules) (v : View) (h h′ : List ℕ) (agree : Agree (fieldsOf R) 
 
   from-same : (k q best t : ℕ) → lookupFrom R v h k q best t ≡ lookupFrom R v h′ k q best t
   unfolding lookupFrom
-  from-same zero q best t = refl
+  from-same zero q best t = rw (edge-same R h h′ (agree .same) best)
   from-same (suc k) q best t = go (visitOf R v h q) (sym (visit-same q)) (from-same k)
     where
       go : (w : Walked) → visitOf R v h′ q ≡ w → ((q best t : ℕ) → lookupFrom R v h k q best t ≡ lookupFrom R v h′ k q best t)

@@ -17,7 +17,9 @@ use Rattle.ranges.specs.Numbers.{pick, _and_}
 use Rattle.ranges.specs.Refusals.{refused, BrokenTable}
 use Rattle.ranges.proofs.Numbers.{never}
 use Rattle.lists.specs.Limits.{mostFields, mostRules}
-use Rattle.lists.specs.Rules.{Rules, fieldsOf, rulesIn}
+use Rattle.lists.specs.Rules.{Rules, Shaped, fieldsOf, rulesIn}
+use Rattle.lists.specs.Edges.{ruleEdge}
+use Rattle.lists.proofs.Edges.{edge-listed}
 use Rattle.tables.specs.Layout.{View}
 use Rattle.tables.specs.Opening.{partStands}
 use Rattle.tables.proofs.Readers.{part-spans}
@@ -119,7 +121,7 @@ module _ (R : Rules) (v : View) (h : List ℕ) (n q : ℕ) (is-n : n ≡ rulesIn
 
 -- ---- all partitions in order
 module _ (R : Rules) (v : View) (h : List ℕ) where
-  pub from-none : (q best t : ℕ) → lookupFrom R v h 0 q best t ≡ answerOf R best t
+  pub from-none : (q best t : ℕ) → lookupFrom R v h 0 q best t ≡ answerOf R h best t
   unfolding lookupFrom
   from-none q best t = refl
 
@@ -151,7 +153,7 @@ module _ {R : Rules} {v : View} {h : List ℕ} {n b q best t : ℕ} (seen : Visi
   pub visited-broken : q < b → (w : Walked) → w ≡ visitOf R v h q → w ≡ Broken → lookupFrom R v h b 0 n 0 ≡ Refused (refused BrokenTable)
   visited-broken lt w is-w is = seen .rest (suc (b - q - 1)) (omega arith) ∙ from-broken R v h (b - q - 1) q best t (sym is-w ∙ is)
 
-  pub visited-all : b ≤ q → lookupFrom R v h b 0 n 0 ≡ answerOf R best t
+  pub visited-all : b ≤ q → lookupFrom R v h b 0 n 0 ≡ answerOf R h best t
   visited-all le = seen .rest 0 (omega (arith, seen .in-order)) ∙ from-none R v h q best t
 
   pub visited-more : rulesIn R ≤ mostRules → fieldsOf R ≤ 8 → q < b → (x : Found) (u : ℕ) → visitOf R v h q ≡ Ran x u
@@ -181,11 +183,11 @@ module _ {R : Rules} {v : View} {h : List ℕ} {n b q best t : ℕ} (seen : Visi
         let first : min best i ≡ best = omega arith in
         rw first at (visited-found (Hit i) is-x)
 
-  -- all are visited: a match, or none
-  pub visited-match : b ≤ q → n ≡ rulesIn R → best < n → lookupFrom R v h b 0 n 0 ≡ Rule best t
-  visited-match le is-n lt =
+  -- all are visited: a match, with whether it has a field at an end as a callee told; or none
+  pub visited-match : Shaped R → b ≤ q → n ≡ rulesIn R → best < n → (e : Bool) → e ≡ ruleEdge R h best → lookupFrom R v h b 0 n 0 ≡ Rule best t e
+  visited-match shape le is-n lt e is-e =
       let under : best < rulesIn R = omega arith in
-      visited-all le ∙ rw (lt-ltb best (rulesIn R) under)
+      visited-all le ∙ rw (lt-ltb best (rulesIn R) under, is-e, edge-listed R h best shape under)
 
   pub visited-nothing : b ≤ q → n ≡ rulesIn R → n ≤ best → lookupFrom R v h b 0 n 0 ≡ Nothing t
   visited-nothing le is-n past =

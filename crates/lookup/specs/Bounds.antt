@@ -28,7 +28,7 @@ sumFrom (suc k) q g = g q + sumFrom k (suc q) g
 
 -- the answer is a refusal
 abbrev pub refuses : Looked → Bool
-refuses (Rule i t) = false
+refuses (Rule i t e) = false
 refuses (Nothing t) = false
 refuses (Refused x) = true
 

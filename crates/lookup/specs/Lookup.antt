@@ -1,11 +1,14 @@
--- 01, The walk and Refusal numbers: a partition visited, all of them in order, and what a lookup answers.
+-- 01, The walk and Refusal numbers: a partition visited, all of them in order, and what a lookup answers; 02, W2: whether the rule that wins
+-- has a field at an end of its range.
 -- Assumes nothing: these are definitions.
 use Prim.Native.Nat.{ℕ, zero, suc, _+_, min}
+use mathlib.Core.Bool.{Bool, false}
 use mathlib.Core.List.{List, [], _∷_}
 use lib.Dec.{ltb}
-use Rattle.ranges.specs.Numbers.{pick}
+use Rattle.ranges.specs.Numbers.{pick, bit}
 use Rattle.ranges.specs.Refusals.{none, refused, stands, Said, saidOf, BrokenTable}
 use Rattle.lists.specs.Rules.{Rules, fieldsOf, rulesIn}
+use Rattle.lists.specs.Edges.{edgeOf}
 use Rattle.tables.specs.Layout.{View}
 use Rattle.tables.specs.Opening.{partStands, viewOf, openFault}
 use Rattle.lookup.specs.Walk.{walkFrom}
@@ -34,13 +37,13 @@ abbrev pub afterVisit : Walked → (Found → ℕ → Looked) → Looked
 afterVisit (Ran x u) next = next x u
 afterVisit Broken next = Refused (refused BrokenTable)
 
--- the smallest candidate, or none, with t tests made
-abbrev pub answerOf : Rules → ℕ → ℕ → Looked
-answerOf R best t = pick (ltb best (rulesIn R)) (Rule best t) (Nothing t)
+-- the smallest candidate, with whether it has a field at an end; or none; with t tests made
+abbrev pub answerOf : Rules → List ℕ → ℕ → ℕ → Looked
+answerOf R h best t = pick (ltb best (rulesIn R)) (Rule best t (edgeOf R h best)) (Nothing t)
 
 -- the k partitions from q on, with the smallest candidate and the tests of those before
 unfoldable pub lookupFrom : Rules → View → List ℕ → ℕ → ℕ → ℕ → ℕ → Looked
-lookupFrom R v h zero q best t = answerOf R best t
+lookupFrom R v h zero q best t = answerOf R h best t
 lookupFrom R v h (suc k) q best t = afterVisit (visitOf R v h q) (λ x u. lookupFrom R v h k (suc q) (better best x) (t + u))
 
 -- all b partitions in order
@@ -51,21 +54,27 @@ searchOf R v h = lookupFrom R v h (v .b) 0 (rulesIn R) 0
 unfoldable pub lookupOf : Rules → List ℕ → List ℕ → Looked
 lookupOf R T h = pick (stands (openFault R T)) (searchOf R (viewOf R T) h) (Refused (openFault R T))
 
--- what the answer says in the paper's words: 1, the rule number and the tests; 0 and the tests where there is no match;
--- a refusal carries no match
+-- what the answer says in the paper's words: 1, the rule number, the tests, and 1 at an edge, else 0; 0, the tests and 0
+-- where there is no match; a refusal carries no match
 abbrev pub saysLooked : Looked → Said
-saysLooked (Rule i t) = saidOf none (1 ∷ i ∷ t ∷ [])
-saysLooked (Nothing t) = saidOf none (0 ∷ t ∷ [])
+saysLooked (Rule i t e) = saidOf none (1 ∷ i ∷ t ∷ bit e ∷ [])
+saysLooked (Nothing t) = saidOf none (0 ∷ t ∷ 0 ∷ [])
 saysLooked (Refused x) = saidOf x []
 
 -- its match: one rule number, or none
 abbrev pub matchIn : Looked → List ℕ
-matchIn (Rule i t) = i ∷ []
+matchIn (Rule i t e) = i ∷ []
 matchIn (Nothing t) = []
 matchIn (Refused x) = []
 
 -- its count of tests, 0 for a refusal
 abbrev pub testsIn : Looked → ℕ
-testsIn (Rule i t) = t
+testsIn (Rule i t e) = t
 testsIn (Nothing t) = t
 testsIn (Refused x) = 0
+
+-- its edge: whether the rule that wins has a field at an end; none and a refusal have no edge
+abbrev pub edgeIn : Looked → Bool
+edgeIn (Rule i t e) = e
+edgeIn (Nothing t) = false
+edgeIn (Refused x) = false

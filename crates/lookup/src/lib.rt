@@ -5,7 +5,8 @@
 // made; only the statements on built tables cite what `sorting` proves of them.
 //
 // What it answers. `lookup` gives the smallest rule number that fits a header, or none, with the number of range tests
-// made; or a refusal, 1, 2, 3, 5 or 6. It never gives 4, since it does not read the whole list.
+// made; or a refusal, 1, 2, 3, 5 or 6. It never gives 4, since it does not read the whole list. With a rule it says whether
+// one of its fields is at an end of its range (02, W2): of the winner alone, after the last partition.
 //
 // The walk. A partition's places ascend, so that one test at a middle place rules out a part of them. The walk has a group
 // of places, at first the whole partition, and a field, at first 0. It tests the header's number in this field against the

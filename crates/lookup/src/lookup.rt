@@ -3,6 +3,7 @@ use crate::walk::Found;
 use crate::walk::Walked;
 use crate::walk::unpack;
 use crate::walk::walk;
+use lists::edge::rule_edge;
 use lists::shape::Shape;
 use lists::shape::rules_in;
 use ranges::refusal::BROKEN_TABLE;
@@ -20,10 +21,17 @@ ghost use Rattle.tables.specs.Layout.{view};
 ghost use Rattle.lookup.specs.Lent.{Ready};
 ghost use Rattle.lookup.specs.Lookup.{visitOf, lookupFrom, lookupOf};
 
-// What a lookup answers: the first match, or none, with the range tests made; or a refusal.
+// What a lookup answers: the first match, or none, with the range tests made, and of a match whether it has a field at an
+// end of its range; or a refusal. None and a refusal have no edge.
 pub enum Looked {
-    Rule { rule: usize, tests: usize },
-    Nothing { tests: usize },
+    Rule {
+        rule: usize,
+        tests: usize,
+        edge: bool,
+    },
+    Nothing {
+        tests: usize,
+    },
     Refused(Refusal),
 }
 
@@ -42,7 +50,7 @@ fn visit(shape: Shape, n: u16, list: &[u32], table: &[u16], header: &[u32; 8], q
 }
 
 // Visits the partitions 0 to b - 1 in order: gives the smallest candidate, or none, with the sum of the tests; or refuses
-// with 6 at the first that is broken.
+// with 6 at the first that is broken. Whether the winner has a field at an end is worked out once, after the last partition.
 fn visit_all(shape: Shape, n: u16, b: u16, list: &[u32], table: &[u16], header: &[u32; 8]) -> Looked
     requires { ⌜ Ready (listed shape (now list)) n (now table) ⌝ }
     requires { ⌜ b ≤ n ⌝ }
@@ -66,16 +74,18 @@ fn visit_all(shape: Shape, n: u16, b: u16, list: &[u32], table: &[u16], header: 
         }
     }
     if best < n {
+        let edge = rule_edge(shape, list, best, *header);
         return Looked::Rule {
             rule: best as usize,
             tests: total,
+            edge,
         };
     }
     Looked::Nothing { tests: total }
 }
 
-// Looks a header up in a table: gives the smallest candidate of all partitions, or none, with the sum of the tests; or the
-// first of the refusals 1, 2, 3, 5 and 6 that applies.
+// Looks a header up in a table: gives the smallest candidate of all partitions, with whether it has a field at an end of its
+// range, or none, with the sum of the tests; or the first of the refusals 1, 2, 3, 5 and 6 that applies.
 pub fn lookup(shape: Shape, list: &[u32], table: &[u16], header: [u32; 8]) -> Looked
     ensures { λ r. ⌜ r ≡ lookupOf (listed shape (now (list .entry))) (now (table .entry)) header ⌝ }
 {

@@ -3,6 +3,7 @@
 -- ways out.
 --     and-left, and-right, and-both    both of two tests
 --     or-iff, or-neither               one of them, or neither
+--     bit-one                          a test's number tells its answer
 --     picked, not-picked               which way a test went, from the answer that it led to
 --     all-yes, all-at, all-no, all-some     every number below n passes; each then does; one fails; and where not all pass, one fails
 --     any-yes, any-no, any-at          a number below n passes; none does; and where some number does, one
@@ -61,6 +62,12 @@ or-neither false t e = (refl, e)
 or-last : (s t : Bool) → t ≡ true → s or t ≡ true
 or-last true t e = refl
 or-last false t e = e
+
+pub bit-one : (s t : Bool) → bit s ≡ bit t → s ≡ t
+bit-one true true e = refl
+bit-one true false e = absurd (omega arith)
+bit-one false true e = absurd (omega arith)
+bit-one false false e = refl
 
 -- ---- which way a test went, from the answer that it led to
 module _ {A : Type 0} (a b v : A) where

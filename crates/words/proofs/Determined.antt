@@ -34,6 +34,8 @@ use Rattle.words.proofs.say.put_pair.Kinds as put-pair-kinds
 use Rattle.words.proofs.say.put_pair.Reads as put-pair
 use Rattle.words.proofs.say.put_looked.Kinds as put-looked-kinds
 use Rattle.words.proofs.say.put_looked.Reads as put-looked
+use Rattle.words.proofs.say.put_spot.Kinds as put-spot-kinds
+use Rattle.words.proofs.say.put_spot.Reads as put-spot
 use Rattle.words.proofs.say.put_verdict.Kinds as put-verdict-kinds
 use Rattle.words.proofs.say.put_verdict.Reads as put-verdict
 use Rattle.words.proofs.say.put_part.Kinds as put-part-kinds
@@ -46,6 +48,8 @@ use Rattle.words.proofs.list_words.call_independent.Kinds as call-indep
 use Rattle.words.proofs.list_words.call_independent.Reads as call-independent
 use Rattle.words.proofs.table_words.call_table.Kinds as call-table-kinds
 use Rattle.words.proofs.table_words.call_table.Reads as call-table
+use Rattle.words.proofs.prefix_words.call_side.Kinds as call-side-kinds
+use Rattle.words.proofs.prefix_words.call_side.Reads as call-side
 use Rattle.words.proofs.prefix_words.call_p2r.Kinds as call-p2r-kinds
 use Rattle.words.proofs.prefix_words.call_p2r.Reads as call-p2r
 use Rattle.words.proofs.prefix_words.call_r2p.Kinds as call-r2p-kinds
@@ -125,6 +129,12 @@ put-looked-one κs a x y e g p q = place-one (p .puts) (q .puts)
 pub put-looked-bytes-one : OneRun 1 put-looked-kinds.ps put-looked-kinds.r put-looked.Learnt (λ κs e. now (e .1 .0))
 put-looked-bytes-one κs a x y e g p q = bytes-one (p .puts) (q .puts)
 
+pub put-spot-one : OneAnswer 1 put-spot-kinds.ps put-spot-kinds.r put-spot.Learnt
+put-spot-one κs a x y e g p q = place-one (p .puts) (q .puts)
+
+pub put-spot-bytes-one : OneRun 1 put-spot-kinds.ps put-spot-kinds.r put-spot.Learnt (λ κs e. now (e .1 .0))
+put-spot-bytes-one κs a x y e g p q = bytes-one (p .puts) (q .puts)
+
 pub put-verdict-one : OneAnswer 1 put-verdict-kinds.ps put-verdict-kinds.r put-verdict.Learnt
 put-verdict-one κs a x y e g p q = place-one (p .puts) (q .puts)
 
@@ -164,6 +174,12 @@ pub call-table-bytes-one : OneRun 2 call-table-kinds.ps call-table-kinds.r call-
 call-table-bytes-one κs a x y e g p q = bytes-one (p .puts) (q .puts)
 
 -- ---- prefix_words
+pub call-side-one : OneAnswer 2 call-side-kinds.ps call-side-kinds.r call-side.Learnt
+call-side-one κs a x y e g p q = place-one (p .puts) (q .puts)
+
+pub call-side-bytes-one : OneRun 2 call-side-kinds.ps call-side-kinds.r call-side.Learnt (λ κs e. now (e .1 .0))
+call-side-bytes-one κs a x y e g p q = bytes-one (p .puts) (q .puts)
+
 pub call-p2r-one : OneAnswer 2 call-p2r-kinds.ps call-p2r-kinds.r call-p2r.Learnt
 call-p2r-one κs a x y e g p q = place-one (p .puts) (q .puts)
 

@@ -14,14 +14,13 @@ use Rattle.ranges.proofs.Passes.{written-length}
 use lib.ListN.{length, getD, take, drop, length-append, length-take, length-drop}
 use borrow.Rule.Slice.PartMut.{putMid}
 use Rattle.ranges.specs.declared.refusal.Count.{Count}
-use Rattle.ranges.specs.Prefixes.{boundsOf}
 use Rattle.ranges.specs.Blocks.{prefixesOf, rangeFault, roomFault, runAfter}
 use Rattle.text.specs.Puts.{Put}
 use Rattle.words.specs.Limits.{runMost, answerMost}
 use Rattle.words.specs.Few.{PutFew, PutAll}
 use Rattle.words.specs.Parts.{fromTo}
-use Rattle.words.specs.Said.{allSpaced, countSaid, boundsSaid}
-use Rattle.words.specs.Words.{badSaid, p2rSaid, expandedSaid, r2pStands, r2pSaid, r2pLeft}
+use Rattle.words.specs.Said.{allSpaced, countSaid}
+use Rattle.words.specs.Words.{badSaid, expandedSaid, r2pStands, r2pSaid, r2pLeft}
 use Rattle.words.proofs.Lent.{rest-lent, rest-long, rest-back}
 use Rattle.words.proofs.Longest.{table-most}
 use Rattle.words.proofs.Few.{few-text, few-then, few-more}
@@ -35,15 +34,13 @@ pub counted-put : (word : List ℕ) {count is : Count} {ns left : List ℕ} {n :
 counted-put word answers leaves long count text numbers =
     rw (← answers, ← leaves, ← long) (few-then (few-then count (few-text (length word) (omega arith) text)) numbers)
 
--- ---- p2r
-module _ (ns : List ℕ) where
-  pub p2r-bad : (length ns ≡ 3 → ⊥) → p2rSaid ns ≡ badSaid
-  unfolding p2rSaid
-  p2r-bad ne = rw (ne-eqb (length ns) 3 ne)
+-- ---- side and p2r, whose numbers are exactly so many
+module _ (k : ℕ) (ns said : List ℕ) where
+  pub exact-bad : (length ns ≡ k → ⊥) → pick (eqb (length ns) k) said badSaid ≡ badSaid
+  exact-bad ne = rw (ne-eqb (length ns) k ne)
 
-  pub p2r-call : length ns ≡ 3 → p2rSaid ns ≡ boundsSaid (boundsOf (getD ns 2 0) (getD ns 0 0) (getD ns 1 0))
-  unfolding p2rSaid
-  p2r-call e = rw (eq-eqb (length ns) 3 e)
+  pub exact-call : length ns ≡ k → pick (eqb (length ns) k) said badSaid ≡ said
+  exact-call e = rw (eq-eqb (length ns) k e)
 
 -- ---- r2p
 -- the run keeps its length

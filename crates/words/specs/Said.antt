@@ -1,12 +1,15 @@
 -- What is answered, as bytes: a word, and numbers each after a blank. Each answer of the library in its words.
 -- Assumes nothing: these are definitions.
 use Prim.Native.Nat.{ℕ}
+use mathlib.Core.Bool.{Bool, true, false}
 use mathlib.Core.List.{List, [], _∷_, _++_}
 use Rattle.ranges.specs.declared.refusal.Refusal.{Refusal}
 use Rattle.ranges.specs.declared.refusal.Count.{Count}
 use Rattle.ranges.specs.declared.refusal.Count.the-variants.{Is, Refused}
 use Rattle.ranges.specs.declared.prefix.Bounds.{Bounds}
 use Rattle.ranges.specs.declared.prefix.Bounds.the-variants.{Are, Refused as NoBounds}
+use Rattle.ranges.specs.declared.spot.Spot.{Spot}
+use Rattle.ranges.specs.declared.spot.Spot.the-variants.{Below, AtLow, Between, AtHigh, AtBoth, Above}
 use Rattle.lists.specs.declared.scan.Match.{Match}
 use Rattle.lists.specs.declared.scan.Match.the-variants.{Rule, Nothing, Refused as NoMatch}
 use Rattle.lists.specs.declared.independence.Pair.{Pair}
@@ -55,11 +58,25 @@ pairSaid Independent = bytes "ok yes"
 pairSaid (Both i j) = bytes "ok no" ++ spaced i ++ spaced j
 pairSaid (NoPair x) = refusalSaid x
 
--- ok RULE TESTS, ok none TESTS, or the refusal
+-- at an edge, or not
+abbrev pub edgeSaid : Bool → List ℕ
+edgeSaid true = bytes " edge"
+edgeSaid false = bytes " plain"
+
+-- ok RULE TESTS edge, ok RULE TESTS plain, ok none TESTS plain, or the refusal
 abbrev pub foundSaid : Looked → List ℕ
-foundSaid (Found i t) = bytes "ok" ++ spaced i ++ spaced t
-foundSaid (NotFound t) = bytes "ok none" ++ spaced t
+foundSaid (Found i t e) = (bytes "ok" ++ spaced i ++ spaced t) ++ edgeSaid e
+foundSaid (NotFound t) = (bytes "ok none" ++ spaced t) ++ edgeSaid false
 foundSaid (NoLook x) = refusalSaid x
+
+-- ok below, ok low, ok between, ok high, ok both, ok above
+abbrev pub spotSaid : Spot → List ℕ
+spotSaid Below = bytes "ok below"
+spotSaid AtLow = bytes "ok low"
+spotSaid Between = bytes "ok between"
+spotSaid AtHigh = bytes "ok high"
+spotSaid AtBoth = bytes "ok both"
+spotSaid Above = bytes "ok above"
 
 -- ok yes, ok no, or the refusal
 abbrev pub verdictSaid : Verdict → List ℕ

@@ -7,6 +7,8 @@ use mathlib.Core.Bool.{Bool}
 use lib.ListN.{length, getD, take, drop}
 use lib.Dec.{leb, eqb}
 use Rattle.ranges.specs.Numbers.{pick, _and_}
+use Rattle.ranges.specs.Spots.{spotOf}
+use Rattle.ranges.specs.Sides.{endOf}
 use Rattle.ranges.specs.Prefixes.{boundsOf}
 use Rattle.ranges.specs.Blocks.{expandOf, runAfter}
 use Rattle.lists.specs.Headers.{headerLength}
@@ -19,7 +21,7 @@ use Rattle.lookup.specs.Lookup.{lookupOf}
 use Rattle.lists.specs.Rules.{Rules}
 use Rattle.text.specs.Texts.{bytes}
 use Rattle.words.specs.Limits.{runMost}
-use Rattle.words.specs.Said.{allSpaced, countSaid, boundsSaid, matchSaid, pairSaid, foundSaid, verdictSaid, partSaid}
+use Rattle.words.specs.Said.{allSpaced, countSaid, boundsSaid, matchSaid, pairSaid, foundSaid, spotSaid, verdictSaid, partSaid}
 use Rattle.words.specs.Parts.{fromTo, listEnd, onEnd, tableEnds, onEnds, rulesTo, headerAt}
 use Rattle.words.specs.declared.table_words.TableWord.{TableWord}
 use Rattle.words.specs.declared.table_words.TableWord.the-variants.{Build, Lookup, Audit, Report}
@@ -73,6 +75,11 @@ tabledSaid word ns =
     onEnds (tableEnds ns (following word))
     (λ e t. tableSaid word (rulesTo e ns) (fromTo (e + 1) t ns) (fromTo t (t + following word) ns))
     badSaid
+
+-- ---- side D FIELD LOW HIGH NUMBER
+-- the range is low to high, both counted; D and FIELD alter nothing
+unfoldable pub sideSaid : List ℕ → List ℕ
+sideSaid ns = pick (eqb (length ns) 5) (spotSaid (spotOf (getD ns 2 0) (endOf (getD ns 3 0)) (getD ns 4 0))) badSaid
 
 -- ---- p2r VALUE LENGTH WIDTH
 unfoldable pub p2rSaid : List ℕ → List ℕ

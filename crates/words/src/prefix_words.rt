@@ -1,11 +1,14 @@
-// The calls of prefixes and ranges. `given` holds the line's numbers after the word.
+// The calls of ranges and prefixes. `given` holds the line's numbers after the word.
 use crate::limits::RUN_MOST;
 use crate::say::put_all;
 use crate::say::put_bad;
 use crate::say::put_bounds;
 use crate::say::put_count;
+use crate::say::put_spot;
 use ranges::expand::range_to_prefixes;
 use ranges::prefix::prefix_to_range;
+use ranges::side::closed;
+use ranges::spot::spot_of;
 use text::put::put_text;
 ghost use Prim.Native.Nat.{_+_, _-_, _*_};
 ghost use mathlib.Core.Path.{_≡_};
@@ -13,7 +16,19 @@ ghost use lib.ListN.{length};
 ghost use Rattle.ranges.specs.Blocks.{runAfter};
 ghost use Rattle.words.specs.Limits.{answerMost};
 ghost use Rattle.words.specs.Few.{PutFew};
-ghost use Rattle.words.specs.Words.{p2rSaid, expandedSaid, r2pSaid, r2pLeft};
+ghost use Rattle.words.specs.Words.{sideSaid, p2rSaid, expandedSaid, r2pSaid, r2pLeft};
+
+// side D FIELD LOW HIGH NUMBER: puts where the number lies as against the ends of low to high. D and FIELD alter nothing:
+// they tell a date's range from another's (02, W8).
+pub fn call_side(given: &[u32], out: &mut [u8], at: usize) -> usize
+    ensures { λ r. ⌜ PutFew 70 (now (out .entry)) at (sideSaid (now (given .entry))) (now (out .exit)) r ⌝ }
+{
+    if given.len() != 5 {
+        return put_bad(out, at);
+    }
+    let spot = spot_of(closed(given[2], given[3]), given[4]);
+    put_spot(spot, out, at)
+}
 
 // p2r VALUE LENGTH WIDTH: puts the prefix's low and high end, or the refusal.
 pub fn call_p2r(given: &[u32], out: &mut [u8], at: usize) -> usize

@@ -6,6 +6,7 @@ use lookup::lookup::Looked;
 use ranges::prefix::Bounds;
 use ranges::refusal::Count;
 use ranges::refusal::Refusal;
+use ranges::spot::Spot;
 use sorting::audit::Verdict;
 use tables::report::Part;
 use text::put::put_byte;
@@ -16,7 +17,7 @@ ghost use mathlib.Core.List.{_++_};
 ghost use lib.ListN.{length};
 ghost use Rattle.text.specs.Texts.{bytes};
 ghost use Rattle.words.specs.Few.{PutFew, PutAll};
-ghost use Rattle.words.specs.Said.{spaced, refusalSaid, countSaid, boundsSaid, matchSaid, pairSaid, foundSaid, verdictSaid, partSaid};
+ghost use Rattle.words.specs.Said.{spaced, refusalSaid, countSaid, boundsSaid, matchSaid, pairSaid, edgeSaid, foundSaid, spotSaid, verdictSaid, partSaid};
 
 // Puts a blank and a number.
 pub fn put_spaced(n: u64, out: &mut [u8], at: usize) -> usize
@@ -125,14 +126,44 @@ pub fn put_pair(pair: Pair, out: &mut [u8], at: usize) -> usize
     }
 }
 
-// Puts the first match, or none, and the tests made, or the refusal.
+// Puts edge or plain after a blank.
+fn put_edge(edge: bool, out: &mut [u8], at: usize) -> usize
+    ensures { λ r. ⌜ PutFew 6 (now (out .entry)) at (edgeSaid edge) (now (out .exit)) r ⌝ }
+{
+    if edge {
+        return put_text(b" edge", out, at);
+    }
+    put_text(b" plain", out, at)
+}
+
+// Puts the first match, or none, the tests made, and whether the match is at an edge, or the refusal.
 pub fn put_looked(looked: Looked, out: &mut [u8], at: usize) -> usize
     ensures { λ r. ⌜ PutFew 70 (now (out .entry)) at (foundSaid looked) (now (out .exit)) r ⌝ }
 {
     match looked {
-        Looked::Rule { rule, tests } => put_two(b"ok", rule as u64, tests as u64, out, at),
-        Looked::Nothing { tests } => put_one(b"ok none", tests as u64, out, at),
+        Looked::Rule { rule, tests, edge } => {
+            let next = put_two(b"ok", rule as u64, tests as u64, out, at);
+            put_edge(edge, out, next)
+        }
+        Looked::Nothing { tests } => {
+            let next = put_one(b"ok none", tests as u64, out, at);
+            put_edge(false, out, next)
+        }
         Looked::Refused(x) => put_refused(x, out, at),
+    }
+}
+
+// Puts where a number lies as against the ends of a range.
+pub fn put_spot(spot: Spot, out: &mut [u8], at: usize) -> usize
+    ensures { λ r. ⌜ PutFew 70 (now (out .entry)) at (spotSaid spot) (now (out .exit)) r ⌝ }
+{
+    match spot {
+        Spot::Below => put_text(b"ok below", out, at),
+        Spot::AtLow => put_text(b"ok low", out, at),
+        Spot::Between => put_text(b"ok between", out, at),
+        Spot::AtHigh => put_text(b"ok high", out, at),
+        Spot::AtBoth => put_text(b"ok both", out, at),
+        Spot::Above => put_text(b"ok above", out, at),
     }
 }
 

@@ -45,7 +45,8 @@ fn put_build(shape: Shape, list: &[u32], table: &mut [u16], out: &mut [u8], at: 
     put_table(table, out, b)
 }
 
-// lookup D LIST TABLE HEADER: puts the first match, or none, and the tests made, or the refusal.
+// lookup D LIST TABLE HEADER: puts the first match, or none, the tests made, and whether the match is at an edge, or the
+// refusal.
 fn put_lookup(
     shape: Shape,
     list: &[u32],

@@ -9,16 +9,17 @@
 //!
 //! Numbers. Plain decimal digits without leading zeros ("0" itself stands), 0 to 4294967295; a number of a TABLE is
 //! 0 to 65535. LIST, TABLE and RUN are a length and then exactly that many numbers; the length is at most 16500 for
-//! a LIST, 18500 for a TABLE, 200 for a RUN. HEADER is eight numbers. Each of D, P, VALUE, LENGTH, WIDTH, LOW and
-//! HIGH is any number. After the last part nothing may follow.
+//! a LIST, 18500 for a TABLE, 200 for a RUN. HEADER is eight numbers. Each of D, P, FIELD, NUMBER, VALUE, LENGTH,
+//! WIDTH, LOW and HIGH is any number. After the last part nothing may follow.
 //!
 //!     check D LIST                 ok N
 //!     scan D LIST HEADER           ok RULE | ok none
 //!     build D LIST TABLE           ok B | refused ..       then, either way, " table" and " NUMBER" for each number
-//!     lookup D LIST TABLE HEADER   ok RULE TESTS | ok none TESTS
+//!     lookup D LIST TABLE HEADER   ok RULE TESTS edge | ok RULE TESTS plain | ok none TESTS plain
 //!     audit D LIST TABLE           ok yes | ok no
 //!     report D LIST TABLE P        ok SIZE SMALLEST
 //!     independent D LIST           ok yes | ok no I J
+//!     side D FIELD LOW HIGH NUMBER ok below | ok low | ok between | ok high | ok both | ok above
 //!     p2r VALUE LENGTH WIDTH       ok LOW HIGH
 //!     r2p LOW HIGH WIDTH RUN       ok COUNT | refused ..   then, either way, " run" and " NUMBER" for each number
 //!     any refusal                  refused NUMBER FIRST SECOND
@@ -31,6 +32,7 @@ use crate::decimal::number_of;
 use crate::lists::{check, independence, scan, Header};
 use crate::lookup::lookup;
 use crate::prefixes::{prefix_to_range, range_to_prefixes};
+use crate::ranges::{spot_of, Range, Spot};
 use crate::refusal::Refusal;
 use crate::table::{audit, build, report};
 
@@ -138,7 +140,10 @@ fn call_build(words: &mut Words) -> Option<String> {
 fn call_lookup(words: &mut Words) -> Option<String> {
     let (d, list, table, header) = (words.number()?, words.list()?, words.table()?, words.header()?);
     words.end()?;
-    Some(said(lookup(d, &list, &table, &header), |(rule, tests)| format!("{} {}", rule_or_none(rule), tests)))
+    Some(said(lookup(d, &list, &table, &header), |looked| {
+        let edge = if looked.edge { "edge" } else { "plain" };
+        format!("{} {} {}", rule_or_none(looked.rule), looked.tests, edge)
+    }))
 }
 
 fn call_audit(words: &mut Words) -> Option<String> {
@@ -159,6 +164,21 @@ fn call_independent(words: &mut Words) -> Option<String> {
     Some(said(independence(d, &list), |pair| match pair {
         None => String::from("yes"),
         Some((i, j)) => format!("no {} {}", i, j),
+    }))
+}
+
+/// D and FIELD tell a date from another field (02, W8), and alter nothing yet.
+fn call_side(words: &mut Words) -> Option<String> {
+    let (_, _) = (words.number()?, words.number()?);
+    let (low, high, number) = (words.number()?, words.number()?, words.number()?);
+    words.end()?;
+    Some(String::from(match spot_of(Range { low, high }, number) {
+        Spot::Below => "ok below",
+        Spot::Low => "ok low",
+        Spot::Between => "ok between",
+        Spot::High => "ok high",
+        Spot::Both => "ok both",
+        Spot::Above => "ok above",
     }))
 }
 
@@ -186,6 +206,7 @@ fn call(line: &[u8]) -> Option<String> {
         b"audit" => call_audit(&mut words),
         b"report" => call_report(&mut words),
         b"independent" => call_independent(&mut words),
+        b"side" => call_side(&mut words),
         b"p2r" => call_p2r(&mut words),
         b"r2p" => call_r2p(&mut words),
         _ => None,

@@ -1,4 +1,4 @@
-//! 01, The walk: the lookup of a header in a table, as the paper's loop.
+//! 01, The walk: the lookup of a header in a table, as the paper's loop; 02, W2: whether the winner is at an edge.
 
 use crate::lists::{fits, Header, Rule};
 use crate::ranges::{side_of, Side};
@@ -50,8 +50,22 @@ pub fn walk(rules: &[Rule], table: &Table, header: &Header, s: usize, e: usize) 
     Ok(Walked { candidate: Some(rule), tests })
 }
 
-/// Answers the smallest candidate of all partitions, or none, and the sum of the tests; or 1, 2, 3, 5, 6.
-pub fn lookup(d: u32, list: &[u32], table: &[u16], header: &Header) -> Result<(Option<usize>, usize), Refusal> {
+/// What a lookup answers: the winner, or none, the tests made, and whether the winner is at an edge.
+#[derive(Clone, Copy, Debug, PartialEq, Eq)]
+pub struct Looked {
+    pub rule: Option<usize>,
+    pub tests: usize,
+    pub edge: bool,
+}
+
+/// Of a rule that fits: some field's number is the low or the high of its range. The numbers past d are not read.
+fn at_edge(rule: &Rule, header: &Header) -> bool {
+    rule.iter().zip(header).any(|(range, number)| range.low == *number || range.high == *number)
+}
+
+/// Answers the smallest candidate of all partitions, or none, and the sum of the tests; or 1, 2, 3, 5, 6. A candidate that
+/// lost has no say in the edge, and where there is none there is no edge.
+pub fn lookup(d: u32, list: &[u32], table: &[u16], header: &Header) -> Result<Looked, Refusal> {
     let (rules, table) = open(d, list, table)?;
     let mut candidates = Vec::new();
     let mut tests = 0;
@@ -61,5 +75,7 @@ pub fn lookup(d: u32, list: &[u32], table: &[u16], header: &Header) -> Result<(O
         tests += walked.tests;
         candidates.extend(walked.candidate);
     }
-    Ok((candidates.into_iter().min(), tests))
+    let rule = candidates.into_iter().min();
+    let edge = rule.map_or(false, |winner| at_edge(&rules[winner], header));
+    Ok(Looked { rule, tests, edge })
 }

@@ -1,5 +1,5 @@
-//! The independent second program: document 01 written out as plainly as it reads, for the proved programs to be
-//! held to. It shares no code with them, uses the standard library alone, and makes no attempt at speed.
+//! The independent second program: documents 01 and 02 written out as plainly as they read, for the proved programs to
+//! be held to. It shares no code with them, uses the standard library alone, and makes no attempt at speed.
 //! "Reading N" in a comment is entry N of docs/DECISIONS.md, chosen where 01 can be read in two ways.
 
 mod calls;
@@ -22,7 +22,7 @@ use std::io::{self, BufWriter, Read, Write};
 
 const USAGE: &str = "usage: second calls                   answers lines of the calls protocol
        second gateway RULES HEADERS   prints what the program prints for two files
-       second edges KIND              writes the fixed lines of a kind: prefixes, lists, sorting, lookup, protocol
+       second edges KIND              writes the fixed lines of a kind: ranges, prefixes, lists, sorting, lookup, protocol
        second stored                  writes the lines that are stored with the crate calls
        second cases SEED COUNT KIND   writes drawn lines of such a kind, or of random or large
        second files DIR               writes the fixed file pairs for the program, a folder each

@@ -87,10 +87,13 @@ pub fn printed(rules: &[u8], headers: &[u8]) -> String {
     for line in lines_of(headers) {
         match header_of_line(line, d) {
             None => out += "refused,8\r\n",
-            Some(header) => match lookup(d, &list, &table, &header).expect("the table is built") {
-                (Some(rule), tests) => out += &format!("{},{}\r\n", rule, tests),
-                (None, tests) => out += &format!("none,{}\r\n", tests),
-            },
+            Some(header) => {
+                let looked = lookup(d, &list, &table, &header).expect("the table is built");
+                match looked.rule {
+                    Some(rule) => out += &format!("{},{}\r\n", rule, looked.tests),
+                    None => out += &format!("none,{}\r\n", looked.tests),
+                }
+            }
         }
     }
     out

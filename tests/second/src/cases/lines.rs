@@ -61,6 +61,10 @@ impl Lines {
         self.say(format!("independent {} {}", d, counted(list)));
     }
 
+    pub fn side(&mut self, d: u32, field: u32, low: u32, high: u32, number: u32) {
+        self.say(format!("side {} {} {} {} {}", d, field, low, high, number));
+    }
+
     pub fn p2r(&mut self, value: u32, length: u32, width: u32) {
         self.say(format!("p2r {} {} {}", value, length, width));
     }

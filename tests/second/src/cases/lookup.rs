@@ -89,6 +89,34 @@ fn ends(out: &mut Lines) {
     }
 }
 
+/// 02, W2: one number of a header at an end of its range, the others between: in each field alone, at either end, and in
+/// the field past d, which is not read; a range of one number; the rule met between the ends in all fields.
+fn edge_fields(out: &mut Lines) {
+    for d in 1..=8 {
+        let list = [10, 20].repeat(d as usize);
+        for number in [10, 11, 19, 20] {
+            for f in 0..8 {
+                let mut header = [15; 8];
+                header[f] = number;
+                look(out, d, &list, &header);
+            }
+        }
+        look(out, d, &list, &[15; 8]);
+        look(out, d, &[&list[2..], &[15, 15]].concat(), &[15; 8]);
+    }
+}
+
+/// The winner's edge, and not a loser's: between its ends where a later rule is at one, and the other way round; each way
+/// with the winner in a later partition too.
+fn edge_of_the_winner(out: &mut Lines) {
+    for list in [[0, 9, 5, 5, 5, 7], [5, 5, 0, 9, 3, 5], [4, 4, 0, 9, 5, 5], [0, 4, 4, 9, 2, 7]] {
+        for number in 0..=9 {
+            look(out, 1, &list, &header_of(&[number], 5));
+            look(out, 1, &reversed(1, &list), &header_of(&[number], 5));
+        }
+    }
+}
+
 /// Every single number of small tables altered, under all headers of a small space.
 fn altered_tables(out: &mut Lines) {
     let mut all = |d: u32, list: &[u32], headers: &[Header]| {
@@ -100,6 +128,7 @@ fn altered_tables(out: &mut Lines) {
     };
     all(1, &[], &[[0; 8]]);
     all(1, &[1, 2], &all_headers(1, 3));
+    all(1, &[1, 5, 3, 3], &all_headers(1, 6));
     all(1, &[1, 1, 3, 3, 5, 5], &all_headers(1, 6));
     all(1, &[2, 3, 0, 1, 1, 2], &all_headers(1, 4));
     all(2, &[1, 1, 1, 1, 1, 1, 3, 3, 3, 3, 2, 2], &all_headers(2, 3));
@@ -202,6 +231,8 @@ pub fn edges(out: &mut Lines) {
     counts(out);
     partitions(out);
     ends(out);
+    edge_fields(out);
+    edge_of_the_winner(out);
     altered_tables(out);
     all_starts(out);
     all_runs(out);

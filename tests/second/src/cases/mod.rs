@@ -8,6 +8,7 @@ mod lookup;
 mod prefixes;
 mod protocol;
 mod random;
+mod ranges;
 pub mod shapes;
 mod sorting;
 mod stored;
@@ -20,6 +21,7 @@ use lines::Lines;
 pub fn edges(kind: &str) -> Option<Lines> {
     let mut out = Lines::default();
     match kind {
+        "ranges" => ranges::edges(&mut out),
         "prefixes" => prefixes::edges(&mut out),
         "lists" => lists::edges(&mut out),
         "sorting" => sorting::edges(&mut out),
@@ -40,6 +42,7 @@ pub fn stored() -> Lines {
 /// Exactly `count` drawn lines of a kind, or none where there is no such kind.
 pub fn drawn(kind: &str, seed: u64, count: usize) -> Option<Lines> {
     let draw: fn(&mut Seed, &mut Lines) = match kind {
+        "ranges" => ranges::drawn,
         "prefixes" => prefixes::drawn,
         "lists" => lists::drawn,
         "sorting" => sorting::drawn,

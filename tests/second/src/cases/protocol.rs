@@ -4,7 +4,7 @@ use super::lines::{counted, Lines};
 use crate::seed::Seed;
 
 /// One good line for each word.
-pub const GOOD: [&str; 9] = [
+pub const GOOD: [&str; 10] = [
     "check 1 4 1 2 3 4",
     "scan 1 4 1 2 3 4 3 0 0 0 0 0 0 0",
     "build 1 2 5 6 8 9 9 9 9 9 9 9 9",
@@ -12,6 +12,7 @@ pub const GOOD: [&str; 9] = [
     "audit 1 2 5 6 8 1 1 1 0 0 1 0 1",
     "report 1 2 5 6 8 1 1 1 0 0 1 0 1 0",
     "independent 1 4 1 2 2 4",
+    "side 2 1 5 9 7",
     "p2r 16 2 5",
     "r2p 16 23 5 3 9 9 9",
 ];

@@ -193,6 +193,32 @@ fn turned_ends(out: &mut Lines) {
     out.report(1, &list, &table, 0);
 }
 
+/// 02, W2: each of the six outcomes; low > high; 0 and the top at either end.
+fn spots(out: &mut Lines) {
+    for (low, high, number) in [(5, 9, 4), (5, 9, 5), (5, 9, 7), (5, 9, 9), (5, 5, 5), (5, 9, 10), (5, 3, 4), (5, 3, 5)]
+    {
+        out.side(1, 0, low, high, number);
+    }
+    for (low, high, number) in [(0, TOP, 0), (0, TOP, TOP), (0, 0, 0), (TOP, TOP, TOP), (1, TOP - 1, TOP), (1, TOP, 0)]
+    {
+        out.side(TOP, TOP, low, high, number);
+    }
+}
+
+/// 02, W2: a rule met between its ends, at each end, and not at all; in field 0 and in the last alone; the winner between
+/// its ends where a loser is at one.
+fn winners(out: &mut Lines) {
+    for number in [0, 5, 9, 10] {
+        look(out, 1, &[0, 9], &header_of(&[number], 0));
+    }
+    look(out, 2, &BENCH, &header_of(&[5, 5], 0));
+    for numbers in [[10, 15], [15, 20], [15, 15]] {
+        look(out, 2, &[10, 20, 10, 20], &header_of(&numbers, 20));
+    }
+    look(out, 1, &[0, 9, 5, 5], &header_of(&[5], 5));
+    look(out, 1, &[5, 5, 0, 9], &header_of(&[5], 5));
+}
+
 /// Prefixes: ends at 0 and at the top, runs that are short, odd or too long, widths 1 and 32, 9 to 12 in their order.
 fn widths(out: &mut Lines) {
     for (low, high, width) in [(0, 0, 1), (1, 30, 5), (0, TOP, 32), (TOP, TOP, 32)] {
@@ -291,6 +317,8 @@ pub fn lines(out: &mut Lines) {
     broken_steps(out);
     broken_ends(out);
     turned_ends(out);
+    spots(out);
+    winners(out);
     widths(out);
     counts_of_zeros(out);
     limits(out);

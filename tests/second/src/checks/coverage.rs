@@ -3,12 +3,12 @@
 use std::collections::BTreeSet;
 
 use crate::calls::answer;
-use crate::cases::{drawn, edges};
+use crate::cases::{drawn, edges, stored};
 
-const KINDS: [&str; 5] = ["prefixes", "lists", "sorting", "lookup", "protocol"];
+const KINDS: [&str; 6] = ["ranges", "prefixes", "lists", "sorting", "lookup", "protocol"];
 
 /// 01, Refusal numbers: the checks of each call.
-pub const REFUSALS: [(&str, &[u32]); 9] = [
+pub const REFUSALS: [(&str, &[u32]); 10] = [
     ("check", &[1, 2, 3, 4]),
     ("scan", &[1, 2, 3, 4]),
     ("independent", &[1, 2, 3, 4]),
@@ -16,6 +16,7 @@ pub const REFUSALS: [(&str, &[u32]); 9] = [
     ("audit", &[1, 2, 3, 4, 5]),
     ("lookup", &[1, 2, 3, 5, 6]),
     ("report", &[1, 2, 3, 5, 6, 7]),
+    ("side", &[]),
     ("p2r", &[9, 10]),
     ("r2p", &[9, 11, 12]),
 ];
@@ -63,12 +64,34 @@ fn drawn_cases_bring_up_every_refusal_of_their_layer() {
 }
 
 #[test]
+fn edges_and_drawn_cases_bring_up_every_outcome_of_the_range_test() {
+    for lines in [edges("ranges").unwrap(), drawn("ranges", 12, 2000).unwrap(), stored()] {
+        let of_side = lines.lines.iter().filter(|line| line.starts_with(b"side ")).map(|line| answer(line));
+        let said: BTreeSet<String> = of_side.filter(|said| said != "bad").collect();
+        assert_eq!(
+            said,
+            ["above", "below", "between", "both", "high", "low"].map(|word| format!("ok {}", word)).into()
+        );
+    }
+}
+
+#[test]
+fn lookups_come_to_edges_and_between_them() {
+    for lines in [edges("lookup").unwrap(), drawn("lookup", 13, 4000).unwrap(), stored()] {
+        let said: Vec<String> = lines.lines.iter().map(|line| answer(line)).collect();
+        let ends_in = |word: &str| said.iter().filter(|said| said.ends_with(word) && !said.contains("none")).count();
+        assert!(ends_in(" edge") >= 5 && ends_in(" plain") >= 5);
+        assert!(said.iter().all(|said| !said.contains("none") || !said.ends_with("edge")));
+    }
+}
+
+#[test]
 fn only_the_protocol_has_faulty_lines() {
     for kind in KINDS {
         let faulty = edges(kind).unwrap().lines.iter().filter(|line| answer(line) == "bad").count();
         assert_eq!(faulty > 0, kind == "protocol", "{}: {} faulty", kind, faulty);
     }
-    for kind in ["prefixes", "lists", "sorting", "lookup", "random", "large"] {
+    for kind in ["ranges", "prefixes", "lists", "sorting", "lookup", "random", "large"] {
         assert!(drawn(kind, 9, 60).unwrap().lines.iter().all(|line| answer(line) != "bad"));
     }
 }

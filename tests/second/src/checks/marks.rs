@@ -1,14 +1,15 @@
 //! 01, A small bench list: B1 to B12, and what the program prints.
 
 use crate::cases::shapes::{built, header_of, BENCH, TOP};
-use crate::lookup::lookup;
+use crate::lookup::{lookup, Looked};
 use crate::prefixes::{prefix_to_range, range_to_prefixes};
 use crate::program::printed;
 use crate::table::build;
 
-/// Looks a header of the bench list up in its table.
-fn looked(model: u32, serial: u32) -> (Option<usize>, usize) {
-    lookup(2, &BENCH, &built(2, &BENCH), &header_of(&[model, serial], 0)).unwrap()
+/// Looks a header of the bench list up in its table: the rule, the tests, and whether it is at an edge.
+fn looked(model: u32, serial: u32) -> (Option<usize>, usize, bool) {
+    let looked = lookup(2, &BENCH, &built(2, &BENCH), &header_of(&[model, serial], 0)).unwrap();
+    (looked.rule, looked.tests, looked.edge)
 }
 
 #[test]
@@ -27,37 +28,37 @@ fn b1() {
 
 #[test]
 fn b2() {
-    assert_eq!(looked(7, 250), (Some(1), 6));
+    assert_eq!(looked(7, 250), (Some(1), 6, true));
 }
 
 #[test]
 fn b3() {
-    assert_eq!(looked(7, 100), (Some(0), 7));
+    assert_eq!(looked(7, 100), (Some(0), 7, true));
 }
 
 #[test]
 fn b4() {
-    assert_eq!(looked(7, 150), (Some(3), 7));
+    assert_eq!(looked(7, 150), (Some(3), 7, true));
 }
 
 #[test]
 fn b5() {
-    assert_eq!(looked(8, 5), (Some(2), 6));
+    assert_eq!(looked(8, 5), (Some(2), 6, true));
 }
 
 #[test]
 fn b6() {
-    assert_eq!(looked(9, 5), (Some(4), 5));
+    assert_eq!(looked(9, 5), (Some(4), 5, true));
 }
 
 #[test]
 fn b7() {
-    assert_eq!(looked(10, 0), (None, 4));
+    assert_eq!(looked(10, 0), (None, 4, false));
 }
 
 #[test]
 fn b8() {
-    assert_eq!(looked(7, 1000), (None, 6));
+    assert_eq!(looked(7, 1000), (None, 6, false));
 }
 
 #[test]
@@ -66,7 +67,7 @@ fn b9() {
     assert_eq!(build(1, &[], &mut table), Ok(0));
     assert_eq!(table, [0, 1, 0, 0]);
     for number in [0, 1, 7, TOP] {
-        assert_eq!(lookup(1, &[], &table, &[number; 8]), Ok((None, 0)));
+        assert_eq!(lookup(1, &[], &table, &[number; 8]), Ok(Looked { rule: None, tests: 0, edge: false }));
     }
 }
 

@@ -4,8 +4,9 @@ use crate::cases::characters::{drawn_header, drawn_list, list_of, turned};
 use crate::cases::shapes::{all_headers, all_lists, altered, built, grid, reversed, stairs, BENCH, TOP};
 use crate::cases::tables::{damage, looks_right};
 use crate::lists::{fits, independence, rules_of, scan, Rule};
-use crate::lookup::{lookup, walk};
+use crate::lookup::{lookup, walk, Looked};
 use crate::prefixes::{pairs_of, prefix_to_range};
+use crate::ranges::{side_of, spot_of, Range, Side, Spot};
 use crate::seed::Seed;
 use crate::sorting::{standing, Standing};
 use crate::table::{audit, open, report};
@@ -28,7 +29,7 @@ fn lookup_is_first_match() {
         let table = built(d, &list);
         for _ in 0..5 {
             let header = drawn_header(&mut seed, d, &list);
-            let (rule, _) = lookup(d, &list, &table, &header).unwrap();
+            let rule = lookup(d, &list, &table, &header).unwrap().rule;
             assert_eq!(rule, scan(d, &list, &header).unwrap());
             found += rule.iter().count();
         }
@@ -46,7 +47,7 @@ fn lookup_is_first_match_for_1024_rules() {
         let table = built(d, &list);
         for _ in 0..50 {
             let header = drawn_header(&mut seed, d, &list);
-            assert_eq!(lookup(d, &list, &table, &header).unwrap().0, scan(d, &list, &header).unwrap());
+            assert_eq!(lookup(d, &list, &table, &header).unwrap().rule, scan(d, &list, &header).unwrap());
         }
     }
 }
@@ -91,9 +92,46 @@ fn d_plus_k_is_reached() {
     for d in 1..=8 {
         for m in (1..=33).chain([63, 64, 65, 127, 128, 1023, 1024]) {
             let list = stairs(m, d);
-            assert_eq!(lookup(d, &list, &built(d, &list), &[0; 8]), Ok((Some(0), d as usize + k_of(m))));
+            assert_eq!(
+                lookup(d, &list, &built(d, &list), &[0; 8]),
+                Ok(Looked { rule: Some(0), tests: d as usize + k_of(m), edge: true })
+            );
         }
     }
+}
+
+#[test]
+fn all_but_below_and_above_are_inside() {
+    for low in 0..=5 {
+        for high in 0..=5 {
+            for number in 0..=6 {
+                let range = Range { low, high };
+                let side = match spot_of(range, number) {
+                    Spot::Below => Side::Below,
+                    Spot::Above => Side::Above,
+                    _ => Side::Inside,
+                };
+                assert_eq!(side, side_of(range, number));
+            }
+        }
+    }
+}
+
+#[test]
+fn the_edge_is_that_of_the_winners_spots() {
+    let mut seed = Seed::new(14);
+    let mut edges = 0;
+    for _ in 0..4000 {
+        let (d, list) = drawn_list(&mut seed);
+        let header = drawn_header(&mut seed, d, &list);
+        let looked = lookup(d, &list, &built(d, &list), &header).unwrap();
+        let at_end = |spot: Spot| matches!(spot, Spot::Low | Spot::High | Spot::Both);
+        let rules = rules_of(d, &list).unwrap();
+        let winner = looked.rule.map_or(Vec::new(), |rule| rules[rule].clone());
+        assert_eq!(looked.edge, winner.iter().enumerate().any(|(f, range)| at_end(spot_of(*range, header[f]))));
+        edges += looked.edge as usize;
+    }
+    assert!(500 < edges && edges < 3500, "{} of 4000 at an edge", edges);
 }
 
 #[test]

@@ -3,10 +3,10 @@
 use crate::calls::answer;
 use crate::cases::shapes::{built, stairs, twins, BENCH, TOP};
 use crate::lists::{independence, rules_of};
-use crate::lookup::lookup;
+use crate::lookup::{lookup, Looked};
 use crate::prefixes::range_to_prefixes;
 use crate::program::printed;
-use crate::ranges::{side_of, Range, Side};
+use crate::ranges::{side_of, spot_of, Range, Side, Spot};
 use crate::refusal::{refuse, refuse_at};
 use crate::sorting::{standing, Standing};
 use crate::table::{audit, report};
@@ -34,6 +34,8 @@ fn reading_2_below_is_tried_before_above() {
     let turned = Range { low: 5, high: 3 };
     let sides: Vec<Side> = [3, 4, 5, 6].iter().map(|number| side_of(turned, *number)).collect();
     assert_eq!(sides, [Side::Below, Side::Below, Side::Above, Side::Above]);
+    let spots: Vec<Spot> = [3, 4, 5, 6].iter().map(|number| spot_of(turned, *number)).collect();
+    assert_eq!(spots, [Spot::Below, Spot::Below, Spot::Above, Spot::Above]);
 }
 
 #[test]
@@ -52,7 +54,10 @@ fn reading_4_a_failed_confirmation_is_6_and_an_audit_never() {
     // place 1's run of field 0 reaches too far back, so the walk at 1, 0 ends at place 0, whose field 0 it never tested
     let wide_run = [2, 2, 1, 0, 1, 0, 2, 0, 0, 0, 0, 1, 1, 1, 2, 2];
     let header = [1, 0, 0, 0, 0, 0, 0, 0];
-    assert_eq!(lookup(2, &[0, 1, 0, 0, 1, 1, 5, 5], &wide_run, &header), Ok((Some(0), 3)));
+    assert_eq!(
+        lookup(2, &[0, 1, 0, 0, 1, 1, 5, 5], &wide_run, &header),
+        Ok(Looked { rule: Some(0), tests: 3, edge: true })
+    );
     assert_eq!(lookup(2, &[0, 0, 0, 0, 1, 1, 5, 5], &wide_run, &header), Err(refuse(6)));
     let mut wrong = built(2, &BENCH);
     wrong[0] = 4;
@@ -125,13 +130,31 @@ fn lines_of_the_calls_protocol() {
     assert_eq!(says("build 1 2 7 7 8 9 9 9 9 9 9 9 9"), "ok 1 table 1 1 1 0 0 1 0 1");
     assert_eq!(says("build 1 2 7 7 3 9 9 9"), "refused 5 0 0 table 9 9 9");
     assert_eq!(says("build 1 2 7 7 0"), "refused 5 0 0 table");
-    assert_eq!(says("lookup 1 2 7 7 8 1 1 1 0 0 1 0 1 7 0 0 0 0 0 0 0"), "ok 0 1");
-    assert_eq!(says("lookup 1 2 7 7 8 1 1 1 0 0 1 0 1 8 0 0 0 0 0 0 0"), "ok none 1");
+    assert_eq!(says("lookup 1 2 7 7 8 1 1 1 0 0 1 0 1 7 0 0 0 0 0 0 0"), "ok 0 1 edge");
+    assert_eq!(says("lookup 1 2 7 7 8 1 1 1 0 0 1 0 1 8 0 0 0 0 0 0 0"), "ok none 1 plain");
     assert_eq!(says("audit 1 2 7 7 8 1 1 1 0 0 1 0 1"), "ok yes");
     assert_eq!(says("audit 1 2 7 7 8 1 1 1 0 0 1 0 2"), "ok no");
     assert_eq!(says("report 1 2 7 7 8 1 1 1 0 0 1 0 1 0"), "ok 1 0");
     assert_eq!(says("independent 1 4 0 1 2 3"), "ok yes");
     assert_eq!(says("independent 1 4 0 2 2 3"), "ok no 0 1");
+    for (number, said) in [("5", "ok 0 1 plain"), ("9", "ok 0 1 edge"), ("10", "ok none 1 plain")] {
+        assert_eq!(says(&format!("lookup 1 2 0 9 8 1 1 1 0 0 1 0 1 {} 0 0 0 0 0 0 0", number)), said);
+    }
+    for (numbers, said) in [
+        ("5 9 4", "ok below"),
+        ("5 9 5", "ok low"),
+        ("5 9 6", "ok between"),
+        ("5 9 9", "ok high"),
+        ("5 5 5", "ok both"),
+        ("5 9 10", "ok above"),
+        ("5 3 4", "ok below"),
+        ("5 3 5", "ok above"),
+    ] {
+        assert_eq!(says(&format!("side 1 0 {}", numbers)), said);
+    }
+    for bad in ["side 1 0 5 9", "side 1 0 5 9 4 4", "side 1 0 5 9 4294967296", "side 1 0 5 9 x"] {
+        assert_eq!(says(bad), "bad");
+    }
     assert_eq!(says("p2r 16 2 5"), "ok 16 23");
     assert_eq!(says("r2p 16 23 5 3 9 9 9"), "ok 1 run 16 2 9");
     assert_eq!(says("r2p 16 23 5 1 9"), "refused 12 1 0 run 9");

@@ -24,15 +24,15 @@ fn b1_to_b12_are_stored() {
     let look = |header: &str| format!("lookup {} {} {} 0 0 0 0 0 0", LIST, TABLE, header);
     for (start, said) in [
         (format!("build {} 34 ", LIST), format!("ok 3 table {}", &TABLE[3..])),
-        (look("7 250"), String::from("ok 1 6")),
-        (look("7 100"), String::from("ok 0 7")),
-        (look("7 150"), String::from("ok 3 7")),
-        (look("8 5"), String::from("ok 2 6")),
-        (look("9 5"), String::from("ok 4 5")),
-        (look("10 0"), String::from("ok none 4")),
-        (look("7 1000"), String::from("ok none 6")),
+        (look("7 250"), String::from("ok 1 6 edge")),
+        (look("7 100"), String::from("ok 0 7 edge")),
+        (look("7 150"), String::from("ok 3 7 edge")),
+        (look("8 5"), String::from("ok 2 6 edge")),
+        (look("9 5"), String::from("ok 4 5 edge")),
+        (look("10 0"), String::from("ok none 4 plain")),
+        (look("7 1000"), String::from("ok none 6 plain")),
         (String::from("build 1 0 4 "), String::from("ok 0 table 0 1 0 0")),
-        (String::from("lookup 1 0 4 0 1 0 0 7 7 7 7 7 7 7 7"), String::from("ok none 0")),
+        (String::from("lookup 1 0 4 0 1 0 0 7 7 7 7 7 7 7 7"), String::from("ok none 0 plain")),
         (String::from("r2p 16 23 5 2 "), String::from("ok 1 run 16 2")),
         (String::from("r2p 1 30 5 16 "), String::from("ok 8 run 1 5 2 4 4 3 8 2 16 2 24 3 28 4 30 5")),
         (String::from("r2p 0 4294967295 32 2 "), String::from("ok 1 run 0 0")),
@@ -95,7 +95,7 @@ fn every_refusal_of_every_word_is_stored_and_no_other() {
 #[test]
 fn stored_lines_are_few() {
     let lines = stored().lines;
-    assert!((250..=500).contains(&lines.len()), "{} lines", lines.len());
+    assert!((250..=600).contains(&lines.len()), "{} lines", lines.len());
     let (input, output) = (bytes(lines.iter()), bytes(lines.iter().map(|line| answer(line))));
     assert!(input < 200_000 && output < 200_000, "{} and {} bytes", input, output);
 }

@@ -34,17 +34,23 @@ call-table-requires c κs = search needs
 enum-told-4 : tie.Need-enum-told-4
 enum-told-4 c = search needs
 
-call-p2r-requires : tie.Need-call-p2r-requires
-call-p2r-requires c κs = search needs
+call-side-requires : tie.Need-call-side-requires
+call-side-requires c κs = search needs
 
 enum-told-5 : tie.Need-enum-told-5
 enum-told-5 c = search needs
 
-call-r2p-requires : tie.Need-call-r2p-requires
-call-r2p-requires c κs = search needs
+call-p2r-requires : tie.Need-call-p2r-requires
+call-p2r-requires c κs = search needs
 
 enum-told-6 : tie.Need-enum-told-6
 enum-told-6 c = search needs
+
+call-r2p-requires : tie.Need-call-r2p-requires
+call-r2p-requires c κs = search needs
+
+enum-told-7 : tie.Need-enum-told-7
+enum-told-7 c = search needs
 
 put-bad-requires : tie.Need-put-bad-requires
 put-bad-requires c κs = search needs
@@ -102,7 +108,7 @@ same-length-10 c = search needs
 returns-5 : tie.Need-returns-5
 returns-5 c =
     let is = c .before .before .before .before .before .enum-told4 .given .1 in
-    (rw is (few-more (omega arith) (c .before .before .call-p2r .ensures)), rw is refl)
+    (rw is (few-more (omega arith) (c .before .before .call-side .ensures)), rw is refl)
 
 same-length-11 : tie.Need-same-length-11
 same-length-11 c = search needs
@@ -112,15 +118,26 @@ same-length-12 c = search needs
 
 returns-6 : tie.Need-returns-6
 returns-6 c =
-    let is = c .before .before .before .before .before .before .before .enum-told5 .given .1 in
-    (rw is (c .before .before .before .before .call-r2p .ensures .0), rw is (c .before .before .before .before .call-r2p .ensures .1))
+    let is = c .before .before .before .before .before .enum-told5 .given .1 in
+    (rw is (few-more (omega arith) (c .before .before .call-p2r .ensures)), rw is refl)
 
 same-length-13 : tie.Need-same-length-13
 same-length-13 c = search needs
 
+same-length-14 : tie.Need-same-length-14
+same-length-14 c = search needs
+
 returns-7 : tie.Need-returns-7
 returns-7 c =
-    let is = c .before .before .before .before .enum-told6 .given .1 in
+    let is = c .before .before .before .before .before .before .before .enum-told6 .given .1 in
+    (rw is (c .before .before .before .before .call-r2p .ensures .0), rw is (c .before .before .before .before .call-r2p .ensures .1))
+
+same-length-15 : tie.Need-same-length-15
+same-length-15 c = search needs
+
+returns-8 : tie.Need-returns-8
+returns-8 c =
+    let is = c .before .before .before .before .enum-told7 .given .1 in
     (rw is (few-more (omega arith) (c .before .before .put-bad .ensures)), rw is refl)
 
 pub put-word-spec : {M : Type 1} → statement M
@@ -136,10 +153,12 @@ put-word-spec =
     enum-known-word
     call-table-requires
     enum-told-4
-    call-p2r-requires
+    call-side-requires
     enum-told-5
-    call-r2p-requires
+    call-p2r-requires
     enum-told-6
+    call-r2p-requires
+    enum-told-7
     put-bad-requires
     same-length
     same-length-2
@@ -160,4 +179,7 @@ put-word-spec =
     same-length-12
     returns-6
     same-length-13
-    returns-7)
+    same-length-14
+    returns-7
+    same-length-15
+    returns-8)

@@ -2,7 +2,7 @@
 -- Assumes nothing.
 use borrow.Author.Needs.{needs}
 use borrow.Author.Tests.{not-true, not-false}
-use Rattle.lists.specs.Edges.{edgeIn}
+use Rattle.lists.specs.Edges.{ruleEdge}
 use Rattle.lists.proofs.InList.{in-told-by, listed-rule, unlisted, if-listed}
 use Rattle.lists.proofs.edge.rule_edge.Statement.{statement}
 use Rattle.lists.proofs.edge.rule_edge.Tie as tie
@@ -12,7 +12,7 @@ in-list-requires c κs = search needs
 
 -- no such rule
 returns : tie.Need-returns
-unfolding edgeIn
+unfolding ruleEdge
 returns c = unlisted _ _ (c .before .in-list .ensures) _ (not-true _ (c .if1 .taken))
 
 edge-at-requires : tie.Need-edge-at-requires
@@ -20,7 +20,7 @@ edge-at-requires c κs = listed-rule _ _ (in-told-by _ _ (c .before .before .in-
 
 -- a rule of the list
 returns-2 : tie.Need-returns-2
-unfolding edgeIn
+unfolding ruleEdge
 returns-2 c =
     let t = c .before .before in
     if-listed _ _ (t .before .in-list .ensures) (not-false _ (t .if1 .left)) (c .edge-at .ensures)

@@ -122,14 +122,20 @@ loop-again-3 c =
     visited-later (turn .before .loop .inv) (few-rules lent) (few-fields lent) (turn .loop-test .taken) _ _ _
     (visited .visit .ensures) (ran .walked .given .1) _ (hit .found .given .1) (c .if1 .left)
 
-cast-t18 : tie.Need-cast-t18 Inv-loop μ-loop
-cast-t18 c = search needs
+rule-edge-requires : tie.Need-rule-edge-requires Inv-loop μ-loop
+rule-edge-requires c κs = search needs
+
+cast-t20 : tie.Need-cast-t20 Inv-loop μ-loop
+cast-t20 c = search needs
 
 -- a match
 returns-2 : tie.Need-returns-2 Inv-loop μ-loop
 returns-2 c =
-    let done = c .before in
-    sym (visited-match (done .before .loop .inv) (done .loop-test .left) (done .before .before .before .before .pre .0 .rules) (c .if2 .taken))
+    let found = c .before .before in
+    let done = found .before in
+    let lent = done .before .before .before .before .pre .0 in
+    sym
+    (visited-match (done .before .loop .inv) (lent .shape-stands) (done .loop-test .left) (lent .rules) (found .if2 .taken) _ (c .rule-edge .ensures))
 
 -- none
 returns-3 : tie.Need-returns-3 Inv-loop μ-loop
@@ -160,6 +166,7 @@ visit-all-spec =
     loop-again-2
     loop-less-3
     loop-again-3
-    cast-t18
+    rule-edge-requires
+    cast-t20
     returns-2
     returns-3)

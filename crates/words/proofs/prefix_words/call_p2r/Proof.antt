@@ -1,7 +1,8 @@
 -- `words::prefix_words::call_p2r` meets its contract.
 -- Assumes nothing.
 use borrow.Author.Needs.{needs}
-use Rattle.words.proofs.Words.{p2r-bad, p2r-call}
+use Rattle.words.specs.Words.{p2rSaid}
+use Rattle.words.proofs.Words.{exact-bad, exact-call}
 use Rattle.words.proofs.prefix_words.call_p2r.Statement.{statement}
 use Rattle.words.proofs.prefix_words.call_p2r.Tie as tie
 
@@ -13,9 +14,10 @@ same-length c = search needs
 
 -- another count of numbers
 returns : tie.Need-returns
+unfolding p2rSaid
 returns c =
     let test = c .before .before .before .before in
-    rw (p2r-bad _ (test .if1 .taken)) (c .before .before .put-bad .ensures)
+    rw (exact-bad 3 _ _ (test .if1 .taken)) (c .before .before .put-bad .ensures)
 
 shared-slice-read-prefix-to-range : tie.Need-shared-slice-read-prefix-to-range
 shared-slice-read-prefix-to-range c = search needs
@@ -37,10 +39,11 @@ same-length-2 c = search needs
 
 -- the call
 returns-2 : tie.Need-returns-2
+unfolding p2rSaid
 returns-2 c =
     let made = c .before .before .before .before in
     let test = made .before .before .before .before in
-    rw (p2r-call _ (test .if1 .left), ← made .prefix-to-range .ensures) (c .before .before .put-bounds .ensures)
+    rw (exact-call 3 _ _ (test .if1 .left), ← made .prefix-to-range .ensures) (c .before .before .put-bounds .ensures)
 
 pub call-p2r-spec : {M : Type 1} → statement M
 call-p2r-spec =

@@ -2,7 +2,7 @@
 -- Assumes nothing.
 use borrow.Author.Needs.{needs}
 use native.Mathlib.Omega.{arith}
-use Rattle.words.proofs.Few.{few-more}
+use Rattle.words.proofs.Few.{few-then, few-more}
 use Rattle.words.proofs.say.put_looked.Statement.{statement}
 use Rattle.words.proofs.say.put_looked.Tie as tie
 
@@ -15,6 +15,9 @@ slice-aggregate-put-two c = search needs
 put-two-requires : tie.Need-put-two-requires
 put-two-requires c κs = search needs
 
+put-edge-requires : tie.Need-put-edge-requires
+put-edge-requires c κs = search needs
+
 enum-known-looked-2 : tie.Need-enum-known-looked-2
 enum-known-looked-2 c = search needs
 
@@ -23,6 +26,9 @@ slice-aggregate-put-one c = search needs
 
 put-one-requires : tie.Need-put-one-requires
 put-one-requires c κs = search needs
+
+put-edge-requires-2 : tie.Need-put-edge-requires-2
+put-edge-requires-2 c κs = search needs
 
 enum-known-looked-3 : tie.Need-enum-known-looked-3
 enum-known-looked-3 c = search needs
@@ -35,14 +41,20 @@ same-length c = search needs
 
 -- a rule
 returns : tie.Need-returns
-returns c = rw (c .before .before .before .before .before .before .looked .given .1) (few-more (omega arith) (c .before .before .put-two .ensures))
+returns c =
+    let edge = c .before .before in
+    let two = edge .before .before .before .before in
+    rw (two .before .before .before .before .looked .given .1) (few-more (omega arith) (few-then (two .put-two .ensures) (edge .put-edge .ensures)))
 
 same-length-2 : tie.Need-same-length-2
 same-length-2 c = search needs
 
 -- none
 returns-2 : tie.Need-returns-2
-returns-2 c = rw (c .before .before .before .before .before .before .looked2 .given .1) (few-more (omega arith) (c .before .before .put-one .ensures))
+returns-2 c =
+    let edge = c .before .before in
+    let one = edge .before .before .before .before in
+    rw (one .before .before .before .before .looked2 .given .1) (few-more (omega arith) (few-then (one .put-one .ensures) (edge .put-edge2 .ensures)))
 
 same-length-3 : tie.Need-same-length-3
 same-length-3 c = search needs
@@ -58,9 +70,11 @@ put-looked-spec =
     enum-known-looked
     slice-aggregate-put-two
     put-two-requires
+    put-edge-requires
     enum-known-looked-2
     slice-aggregate-put-one
     put-one-requires
+    put-edge-requires-2
     enum-known-looked-3
     put-refused-requires
     same-length
