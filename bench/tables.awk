@@ -79,12 +79,13 @@ function before_table(columns, of_ranges,    i, k, w, head) {
     if (head) print ""
 }
 
-# Says whether an aim for a function holds on every list, or on those of one character, by the mean over the placements.
-function aim(name, words, limit, character,    k, w, most, where) {
+# Says whether an aim for a function holds, by the mean over the placements: on every list, or on those of one character, of at least
+# so many rules or ranges, or of at most so many.
+function aim(name, words, limit, character, from, to,    k, w, most, where) {
     if (index(" " asked " ", " " name " ") == 0) return
     for (k = 1; k <= nr; k++) {
         split(rows[k], w, " ")
-        if (w[1] == name && (character == "" || w[2] == character) && ratios[rows[k]] / turns[rows[k]] > most) {
+        if (w[1] == name && (character == "" || w[2] == character) && w[3] >= from + 0 && (to == "" || w[3] <= to + 0) && ratios[rows[k]] / turns[rows[k]] > most) {
             most = ratios[rows[k]] / turns[rows[k]]
             where = before_name(w) ", " spoken(w[2])
         }
@@ -103,7 +104,8 @@ END {
         m = split(asked, names, " ")
         before_table("list | partitions", 0)
         before_table("ranges | prefixes a range", 1)
-        aim("lookup", "lookup (n ≥ 128)", 1.05)
+        aim("lookup", "lookup (n ≥ 128)", 1.05, "", 128)
+        aim("lookup", "lookup (n = 16)", 1.10, "", 16, 16)
         aim("build", "build", 1.10)
         aim("range_to_prefixes", "range_to_prefixes of 1 to 4294967294", 0.30, "1_to_4294967294")
         aim("range_to_prefixes", "range_to_prefixes of each", 1.05)

@@ -136,17 +136,17 @@ static void measure_ranges(int kind) {
 }
 
 int main(int count, char **words) {
-    static const size_t sizes[] = {128, 512, 1024};
+    static const size_t sizes[] = {16, 128, 512, 1024};
     struct draw from = {SEED};
     for (int i = 1; i < count; i++) {
         for (size_t k = 0; k < KINDS; k++)
             if (strcmp(words[i], kinds[k].name) == 0) kinds[k].wanted = 1;
         if (strcmp(words[i], of_ranges.name) == 0) of_ranges.wanted = 1;
     }
-    // Build and lookup at every size, the others at the least and the greatest, twins and nested by the build alone.
-    for (size_t k = 0; k < 3; k++) points(&list, &from, sizes[k], 5), measure("points", &from, k == 1 ? 2 : KINDS);
-    for (size_t k = 0; k < 3; k++) access_list(&list, &from, sizes[k]), measure("access_list", &from, k == 1 ? 2 : KINDS);
-    for (size_t k = 0; k < 3; k++) prefixes(&list, &from, sizes[k]), measure("prefixes", &from, k == 1 ? 2 : KINDS);
+    // Build and lookup at every size, the others at 128 and 1,024, twins and nested by the build alone.
+    for (size_t k = 0; k < 4; k++) points(&list, &from, sizes[k], 5), measure("points", &from, k % 2 ? KINDS : 2);
+    for (size_t k = 0; k < 4; k++) access_list(&list, &from, sizes[k]), measure("access_list", &from, k % 2 ? KINDS : 2);
+    for (size_t k = 0; k < 4; k++) prefixes(&list, &from, sizes[k]), measure("prefixes", &from, k % 2 ? KINDS : 2);
     twins(&list, 1024, 8), measure("twins", &from, 1);
     nested(&list, 1024, 8), measure("nested", &from, 1);
     for (int kind = 0; kind < RANGE_KINDS; kind++) measure_ranges(kind);

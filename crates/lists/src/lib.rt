@@ -1,7 +1,7 @@
 // Layer 2: lists of rules, headers, and the first match.
 //
 // Renders 01's sections 'Lists and headers', 'Refusal numbers' and, of 'Other answers', check, plain scan and
-// order independence. Every crate above may cite it; it cites `ranges` alone.
+// order independence; of 02, W2, a rule's fields at an end. Every crate above may cite it; it cites `ranges` alone.
 //
 // The list. A list is a lent run of numbers, 2d a rule: low and high of field 0, then of field 1, and so on.
 // `offset_of` alone knows where a rule's low stands; its high stands one further. `shape_of` makes the shape that gives the

@@ -75,7 +75,7 @@ pub fn lookup(d: u32, list: &[u32], table: &[u16], header: &Header) -> Result<Lo
         tests += walked.tests;
         candidates.extend(walked.candidate);
     }
-    let rule = candidates.into_iter().min();
+    let rule = candidates.iter().min().copied();
     let edge = rule.map_or(false, |winner| at_edge(&rules[winner], header));
     Ok(Looked { rule, tests, edge })
 }

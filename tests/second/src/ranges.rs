@@ -39,7 +39,7 @@ pub enum Spot {
 /// Tests a number against both ends: below, above, at both ends, at the low one, at the high one, strictly between.
 /// Reading 2 holds here too.
 pub fn spot_of(range: Range, number: u32) -> Spot {
-    if number < range.low {
+    if range.low > number {
         Spot::Below
     } else if range.high < number {
         Spot::Above
