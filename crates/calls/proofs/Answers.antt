@@ -17,11 +17,11 @@ use Rattle.text.specs.Rows.{good, rowNext, keptAt}
 use Rattle.text.specs.declared.row.Row.{Row}
 use Rattle.text.proofs.Rows.{kept-long}
 use Rattle.words.specs.Limits.{lineRoom, answerMost}
-use Rattle.words.specs.Few.{PutFew}
+use Rattle.phrases.specs.Few.{PutFew}
 use Rattle.words.specs.Words.{badSaid, following, sideSaid, p2rSaid}
 use Rattle.words.specs.declared.table_words.TableWord.{TableWord}
 use Rattle.words.specs.declared.table_words.TableWord.the-variants.{Build, Lookup, Audit, Report}
-use Rattle.words.proofs.Few.{few-more}
+use Rattle.phrases.proofs.Few.{few-more}
 use Rattle.words.proofs.Parts.{list-over, tables-over}
 use Rattle.words.proofs.Words.{exact-bad, r2p-over, left-long}
 use Rattle.calls.specs.declared.line.Line.{Line}

@@ -19,9 +19,9 @@ use Rattle.text.specs.Puts.{Put, placeAfter}
 use Rattle.text.proofs.Feeding.{fed-append}
 use Rattle.text.proofs.Puts.{put-no-byte, put-long, put-then}
 use Rattle.words.specs.Limits.{answerMost}
-use Rattle.words.specs.Few.{PutFew}
+use Rattle.phrases.specs.Few.{PutFew}
 use Rattle.words.proofs.Lent.{rest-lent}
-use Rattle.words.proofs.Few.{all-put, all-few-put}
+use Rattle.phrases.proofs.Few.{all-put, all-few-put}
 use Rattle.calls.specs.Lines.{Heard}
 use Rattle.calls.specs.Answers.{answerLeft}
 use Rattle.calls.specs.Replies.{lineSaid, servedByte, saidTo, roomAt, servedTo, ServedLines, begunLine, ServedLast}

@@ -17,8 +17,8 @@ use Rattle.text.specs.Cells.{fed}
 use Rattle.text.specs.Puts.{placeAfter}
 use Rattle.text.proofs.Puts.{put-no-byte}
 use Rattle.words.specs.Limits.{answerMost}
-use Rattle.words.specs.Few.{PutFew}
-use Rattle.words.proofs.Few.{few-text}
+use Rattle.phrases.specs.Few.{PutFew}
+use Rattle.phrases.proofs.Few.{few-text}
 use Rattle.calls.specs.Lines.{Heard, heard, unheard, heardByte, lineIn}
 use Rattle.calls.specs.Answers.{answerLeft}
 use Rattle.calls.specs.declared.line.Line.{Line}

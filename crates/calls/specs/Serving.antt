@@ -9,7 +9,7 @@ use lib.Dec.{eqb}
 use Rattle.ranges.specs.Numbers.{pick}
 use Rattle.text.specs.Cells.{fed}
 use Rattle.words.specs.Limits.{answerMost}
-use Rattle.words.specs.Few.{PutFew}
+use Rattle.phrases.specs.Few.{PutFew}
 use Rattle.calls.specs.Lines.{Heard}
 use Rattle.calls.specs.Replies.{servedByte, saidTo}
 

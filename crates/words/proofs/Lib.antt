@@ -1,15 +1,11 @@
 -- Lent: the rest of a run, as it is lent.
--- Few: laws of bytes put, at most so many.
 -- Longest: laws of how many numbers and bytes there are at most.
--- Said: laws of answers as text.
 -- Parts: laws of the parts of a line's numbers.
 -- Narrowing: numbers of 16 bits, and their writing to a table.
 -- Words: laws of what each word answers and leaves.
 -- Determined: any two results that a public contract allows are equal.
 pub mod Lent
-pub mod Few
 pub mod Longest
-pub mod Said
 pub mod Parts
 pub mod Narrowing
 pub mod Words

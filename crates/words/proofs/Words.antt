@@ -17,13 +17,13 @@ use Rattle.ranges.specs.declared.refusal.Count.{Count}
 use Rattle.ranges.specs.Blocks.{prefixesOf, rangeFault, roomFault, runAfter}
 use Rattle.text.specs.Puts.{Put}
 use Rattle.words.specs.Limits.{runMost, answerMost}
-use Rattle.words.specs.Few.{PutFew, PutAll}
+use Rattle.phrases.specs.Few.{PutFew, PutAll}
 use Rattle.words.specs.Parts.{fromTo}
-use Rattle.words.specs.Said.{allSpaced, countSaid}
+use Rattle.phrases.specs.Said.{allSpaced, countSaid}
 use Rattle.words.specs.Words.{badSaid, expandedSaid, r2pStands, r2pSaid, r2pLeft}
 use Rattle.words.proofs.Lent.{rest-lent, rest-long, rest-back}
 use Rattle.words.proofs.Longest.{table-most}
-use Rattle.words.proofs.Few.{few-text, few-then, few-more}
+use Rattle.phrases.proofs.Few.{few-text, few-then, few-more}
 
 -- ---- build and r2p
 -- the count, a word and the numbers, as the library left them

@@ -21,7 +21,7 @@ use Rattle.lookup.specs.Lookup.{lookupOf}
 use Rattle.lists.specs.Rules.{Rules}
 use Rattle.text.specs.Texts.{bytes}
 use Rattle.words.specs.Limits.{runMost}
-use Rattle.words.specs.Said.{allSpaced, countSaid, boundsSaid, matchSaid, pairSaid, foundSaid, spotSaid, verdictSaid, partSaid}
+use Rattle.phrases.specs.Said.{allSpaced, countSaid, boundsSaid, matchSaid, pairSaid, foundSaid, spotSaid, verdictSaid, partSaid}
 use Rattle.words.specs.Parts.{fromTo, listEnd, onEnd, tableEnds, onEnds, rulesTo, headerAt}
 use Rattle.words.specs.declared.table_words.TableWord.{TableWord}
 use Rattle.words.specs.declared.table_words.TableWord.the-variants.{Build, Lookup, Audit, Report}

@@ -3,14 +3,14 @@ use crate::part::End;
 use crate::part::header_of;
 use crate::part::list_end;
 use crate::part::shape_in;
-use crate::say::put_bad;
-use crate::say::put_count;
-use crate::say::put_match;
-use crate::say::put_pair;
 use lists::check::check_list;
 use lists::independence::independence;
 use lists::scan::plain_scan;
-ghost use Rattle.words.specs.Few.{PutFew};
+use phrases::say::put_bad;
+use phrases::say::put_count;
+use phrases::say::put_match;
+use phrases::say::put_pair;
+ghost use Rattle.phrases.specs.Few.{PutFew};
 ghost use Rattle.words.specs.Words.{checkSaid, scanSaid, independentSaid};
 
 // check D LIST: puts the number of rules, or the refusal.

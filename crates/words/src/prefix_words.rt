@@ -1,10 +1,10 @@
 // The calls of ranges and prefixes. `given` holds the line's numbers after the word.
 use crate::limits::RUN_MOST;
-use crate::say::put_all;
-use crate::say::put_bad;
-use crate::say::put_bounds;
-use crate::say::put_count;
-use crate::say::put_spot;
+use phrases::say::put_all;
+use phrases::say::put_bad;
+use phrases::say::put_bounds;
+use phrases::say::put_count;
+use phrases::say::put_spot;
 use ranges::expand::range_to_prefixes;
 use ranges::prefix::prefix_to_range;
 use ranges::side::closed;
@@ -15,7 +15,7 @@ ghost use mathlib.Core.Path.{_≡_};
 ghost use lib.ListN.{length};
 ghost use Rattle.ranges.specs.Blocks.{runAfter};
 ghost use Rattle.words.specs.Limits.{answerMost};
-ghost use Rattle.words.specs.Few.{PutFew};
+ghost use Rattle.phrases.specs.Few.{PutFew};
 ghost use Rattle.words.specs.Words.{sideSaid, p2rSaid, expandedSaid, r2pSaid, r2pLeft};
 
 // side D FIELD LOW HIGH NUMBER: puts where the number lies as against the ends of low to high. D and FIELD alter nothing:

@@ -2,7 +2,7 @@
 -- Assumes nothing.
 use borrow.Author.Needs.{needs}
 use native.Mathlib.Omega.{arith}
-use Rattle.words.proofs.Few.{few-text, few-then, few-more}
+use Rattle.phrases.proofs.Few.{few-text, few-then, few-more}
 use Rattle.calls.proofs.answer.answer.Statement.{statement}
 use Rattle.calls.proofs.answer.answer.Tie as tie
 

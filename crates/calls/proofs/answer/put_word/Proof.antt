@@ -3,7 +3,7 @@
 use borrow.Author.Needs.{needs}
 use native.Mathlib.Omega.{arith}
 use mathlib.Core.Path.{refl}
-use Rattle.words.proofs.Few.{few-more}
+use Rattle.phrases.proofs.Few.{few-more}
 use Rattle.calls.proofs.answer.put_word.Statement.{statement}
 use Rattle.calls.proofs.answer.put_word.Tie as tie
 

@@ -4,7 +4,7 @@ use borrow.Author.Needs.{needs}
 use mathlib.Core.Path.{sym, _∙_}
 use native.Mathlib.Omega.{arith}
 use Rattle.words.proofs.Parts.{TableTo, tables-told, tables-asked}
-use Rattle.words.proofs.Few.{few-more}
+use Rattle.phrases.proofs.Few.{few-more}
 use Rattle.words.proofs.table_words.call_table.Statement.{statement}
 use Rattle.words.proofs.table_words.call_table.Tie as tie
 

@@ -4,7 +4,7 @@ use borrow.Author.Needs.{needs}
 use mathlib.Core.Path.{ap, _∙_}
 use native.Mathlib.Omega.{arith}
 use Rattle.words.specs.Words.{following}
-use Rattle.words.proofs.Few.{few-more}
+use Rattle.phrases.proofs.Few.{few-more}
 use Rattle.words.proofs.table_words.put_with.Statement.{statement}
 use Rattle.words.proofs.table_words.put_with.Tie as tie
 

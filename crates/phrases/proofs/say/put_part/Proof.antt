@@ -1,0 +1,50 @@
+-- `words::say::put_part` meets its contract, case by case.
+-- Assumes nothing.
+use borrow.Author.Needs.{needs}
+use native.Mathlib.Omega.{arith}
+use Rattle.phrases.proofs.Few.{few-more}
+use Rattle.phrases.proofs.say.put_part.Statement.{statement}
+use Rattle.phrases.proofs.say.put_part.Tie as tie
+
+enum-known-part : tie.Need-enum-known-part
+enum-known-part c = search needs
+
+slice-aggregate-put-two : tie.Need-slice-aggregate-put-two
+slice-aggregate-put-two c = search needs
+
+put-two-requires : tie.Need-put-two-requires
+put-two-requires c κs = search needs
+
+enum-known-part-2 : tie.Need-enum-known-part-2
+enum-known-part-2 c = search needs
+
+put-refused-requires : tie.Need-put-refused-requires
+put-refused-requires c κs = search needs
+
+same-length : tie.Need-same-length
+same-length c = search needs
+
+-- a partition
+returns : tie.Need-returns
+returns c = rw (c .before .before .before .before .before .before .part .given .1) (few-more (omega arith) (c .before .before .put-two .ensures))
+
+same-length-2 : tie.Need-same-length-2
+same-length-2 c = search needs
+
+-- a refusal
+returns-2 : tie.Need-returns-2
+returns-2 c = rw (c .before .before .before .before .before .part2 .given .1) (c .before .before .put-refused .ensures)
+
+pub put-part-spec : {M : Type 1} → statement M
+put-part-spec =
+    tie.close
+    (tie.spec
+    enum-known-part
+    slice-aggregate-put-two
+    put-two-requires
+    enum-known-part-2
+    put-refused-requires
+    same-length
+    returns
+    same-length-2
+    returns-2)
