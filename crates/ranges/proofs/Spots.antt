@@ -7,12 +7,12 @@
 use Prim.Native.Nat.{ℕ, _+_, _≤_, _<_}
 use mathlib.Core.Bool.{Bool, true, false}
 use mathlib.Core.Logic.{_⊎_, inl, inr, ⊎-elim, _↔_}
-use mathlib.Core.Path.{_≡_, refl, sym, ap, _∙_}
+use mathlib.Core.Path.{_≡_, refl, _∙_}
 use native.Mathlib.Omega.{arith}
 use borrow.Author.Tests.{lt-ltb, le-ltb, le-leb, lt-leb, eq-eqb, ne-eqb, ltb-true, ltb-false, leb-true, leb-false, eqb-true, eqb-false}
 use lib.Dec.{ltb, leb, eqb}
-use Rattle.ranges.specs.Numbers.{pick, _and_}
-use Rattle.ranges.specs.Spots.{spotOf, atEnd}
+use Rattle.ranges.specs.Numbers.{pick}
+use Rattle.ranges.specs.Spots.{spotInside, spotOf, atEnd}
 use Rattle.ranges.specs.declared.spot.Spot.{Spot}
 use Rattle.ranges.specs.declared.spot.Spot.the-variants.{Below, AtLow, Between, AtHigh, AtBoth, Above}
 use Rattle.ranges.proofs.Numbers.{never}
@@ -27,8 +27,7 @@ pub data Sits (low past x : ℕ) : Spot → Type 0 where
   sits-between : low < x → x + 1 < past → Sits low past x Between
 
 -- ---- which outcome a number has
-spot-inside : (low past x : ℕ) → low ≤ x → x < past
-    → spotOf low past x ≡ pick (eqb x low and eqb (x + 1) past) AtBoth (pick (eqb x low) AtLow (pick (eqb (x + 1) past) AtHigh Between))
+spot-inside : (low past x : ℕ) → low ≤ x → x < past → spotOf low past x ≡ spotInside (eqb x low) (eqb (x + 1) past)
 unfolding spotOf
 spot-inside low past x le within = rw (le-ltb x low le, lt-leb past x within)
 
@@ -53,7 +52,7 @@ spot-is {low} {past} {x} (sits-between over more) =
 module _ (low past x : ℕ) where
   -- inside, by whether x is low and whether it is the last number
   sits-in : low ≤ x → x < past → (s t : Bool) → eqb x low ≡ s → eqb (x + 1) past ≡ t
-      → Sits low past x (pick (s and t) AtBoth (pick s AtLow (pick t AtHigh Between)))
+      → Sits low past x (spotInside s t)
   sits-in le within true true p q = sits-both (eqb-true x low p) (eqb-true (x + 1) past q)
   sits-in le within true false p q =
       let unlike = eqb-false (x + 1) past q in
@@ -71,7 +70,7 @@ module _ (low past x : ℕ) where
   sits = go (ltb x low) (leb past x) refl refl
     where
       go : (s t : Bool) → ltb x low ≡ s → leb past x ≡ t
-          → Sits low past x (pick s Below (pick t Above (pick (eqb x low and eqb (x + 1) past) AtBoth (pick (eqb x low) AtLow (pick (eqb (x + 1) past) AtHigh Between)))))
+          → Sits low past x (pick s Below (pick t Above (spotInside (eqb x low) (eqb (x + 1) past))))
       go true t p q = sits-below (ltb-true x low p)
       go false true p q = sits-above (ltb-false x low p) (leb-true past x q)
       go false false p q = sits-in (ltb-false x low p) (leb-false past x q) (eqb x low) (eqb (x + 1) past) refl refl

@@ -12,10 +12,6 @@ use Rattle.lookup.proofs.Within.{few-rules, few-fields}
 use Rattle.lookup.proofs.Visits.{Visited, told-few, visited-none, visited-broken, visited-miss, visited-sooner, visited-later, visited-match, visited-nothing}
 use Rattle.lookup.proofs.lookup.visit_all.Statement.{statement}
 use Rattle.lookup.proofs.lookup.visit_all.Tie as tie
-use Rattle.lookup.proofs.lookup.visit_all.Reads as reads
-use Rattle.lookup.proofs.lookup.visit_all.Lts as lts
-use Rattle.lookup.proofs.lookup.visit.Reads as visit-reads
-use Rattle.ranges.proofs.refusal.refuse.Reads as refuse-reads
 
 abbrev Inv-loop : tie.InvT-loop
 Inv-loop shape n b list table header q₀ best₀ total₀ q best total = Visited (listed shape list) (view n (shape .d) table) header n b q best total
