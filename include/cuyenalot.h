@@ -123,10 +123,10 @@ uint32_t cuy_build(size_t d, const uint32_t *list, size_t list_length, uint16_t 
                    uint64_t answer[4]);
 
 /* Looks a header up in a table. Answers 1 in answer[3] and a rule number in answer[4], or 0 in both where no rule fits; in
- * answer[5] the number of range tests; and in answer[6] 1 where the rule is at an edge, else 0, as it is where no rule fits: in
- * one of the d fields, at least, the header's number is the low or the high of that rule's range. In a table that cuy_build
- * wrote for this list the rule is the first match, and nothing is refused. In any other table a rule that is answered still
- * fits the header, and the edge is its own.
+ * answer[5] the number of range tests; and in answer[6] 1 where that rule is at an edge, which means that in one of the d
+ * fields or more the header's number is the low or the high of its range, else 0, also where no rule fits. In a table that
+ * cuy_build wrote for this list the rule is the first match, and nothing is refused. In any other table a rule that is
+ * answered still fits the header, and the edge is its own.
  * Refuses with 1, 2, 3, 5, 6; never with 4, since it does not read the whole list.
  * In version 1 the answer had six numbers: who still lends six is written past. */
 uint32_t cuy_lookup(size_t d, const uint32_t *list, size_t list_length, const uint16_t *table, size_t table_length,

@@ -54,8 +54,8 @@ impl std::fmt::Display for Refusal {
 
 impl std::error::Error for Refusal {}
 
-/// What a lookup finds: the rule, or none, the number of range tests, and whether the rule is at an edge: in one of the d
-/// fields, at least, the header's number is the low or the high of its range. None has no edge.
+/// What a lookup finds: the rule, or none, the number of range tests, and whether the rule is at an edge, which means that in
+/// one of the d fields or more the header's number is the low or the high of its range. None has no edge.
 #[derive(Clone, Copy, Debug, PartialEq, Eq)]
 pub struct Looked {
     pub rule: Option<usize>,
