@@ -66,6 +66,9 @@ Words are parted by single blanks, and LF ends a line; what follows the last LF,
 and RUN are a length, at most 16500, 18500 and 200, and then that many numbers; HEADER is eight numbers. Numbers are\n\
 plain decimals without leading zeros, 0 to 4294967295, those of a table to 65535.\n\
 \n\
+A lookup says edge where in one field or more the header's number is the low or the high of the rule's range, else plain.\n\
+side says where NUMBER lies as against LOW and HIGH: both is where the three are one. D and FIELD alter nothing yet.\n\
+\n\
 Exit status, by ./run or as installed: 0 where all lines were read and answered, 1 where something can't be read or\n\
 written, 2 for wrong use.\n",
     )
