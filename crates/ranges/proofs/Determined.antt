@@ -13,12 +13,14 @@ use Rattle.ranges.proofs.side.side_of.Kinds as side-of-kinds
 use Rattle.ranges.proofs.side.side_of.Reads as side-of
 use Rattle.ranges.proofs.side.closed.Kinds as closed-kinds
 use Rattle.ranges.proofs.side.closed.Reads as closed
+use Rattle.ranges.proofs.side.range_of.Kinds as range-of-kinds
+use Rattle.ranges.proofs.side.range_of.Reads as range-of
 use Rattle.ranges.proofs.side.is_void.Kinds as is-void-kinds
 use Rattle.ranges.proofs.side.is_void.Reads as is-void
 use Rattle.ranges.proofs.side.meets.Kinds as meets-kinds
 use Rattle.ranges.proofs.side.meets.Reads as meets
-use Rattle.ranges.proofs.standing.standing_of.Kinds as standing-of-kinds
-use Rattle.ranges.proofs.standing.standing_of.Reads as standing-of
+use Rattle.ranges.proofs.standing.is_under.Kinds as is-under-kinds
+use Rattle.ranges.proofs.standing.is_under.Reads as is-under
 use Rattle.ranges.proofs.standing.same_ends.Kinds as same-ends-kinds
 use Rattle.ranges.proofs.standing.same_ends.Reads as same-ends
 use Rattle.ranges.proofs.prefix.prefix_to_range.Kinds as prefix-to-range-kinds
@@ -38,14 +40,17 @@ side-of-one κs a x y e g p q = p ∙ sym q
 pub closed-one : OneAnswer 0 closed-kinds.ps closed-kinds.r closed.Learnt
 closed-one κs a x y e g p q = p ∙ sym q
 
+pub range-of-one : OneAnswer 0 range-of-kinds.ps range-of-kinds.r range-of.Learnt
+range-of-one κs a x y e g p q = p ∙ sym q
+
 pub is-void-one : OneAnswer 0 is-void-kinds.ps is-void-kinds.r is-void.Learnt
 is-void-one κs a x y e g p q = p ∙ sym q
 
 pub meets-one : OneAnswer 0 meets-kinds.ps meets-kinds.r meets.Learnt
 meets-one κs a x y e g p q = p ∙ sym q
 
-pub standing-of-one : OneAnswer 0 standing-of-kinds.ps standing-of-kinds.r standing-of.Learnt
-standing-of-one κs a x y e g p q = p ∙ sym q
+pub is-under-one : OneAnswer 0 is-under-kinds.ps is-under-kinds.r is-under.Learnt
+is-under-one κs a x y e g p q = p ∙ sym q
 
 pub same-ends-one : OneAnswer 0 same-ends-kinds.ps same-ends-kinds.r same-ends.Learnt
 same-ends-one κs a x y e g p q = p ∙ sym q

@@ -1,7 +1,7 @@
 -- Laws of what a test says of the numbers below n (`specs/Numbers.antt`). A loop that tests 0, 1, .. keeps "all
 -- below j passed", "t of those below j passed" or "none below j passed", and these laws take its step and its
 -- ways out.
---     and-left, and-right, and-both    both of two tests
+--     and-left, and-right, and-both    both of two tests; `and-fails`: the second does not pass
 --     or-iff, or-neither               one of them, or neither
 --     bit-one                          a test's number tells its answer
 --     picked, not-picked               which way a test went, from the answer that it led to
@@ -49,6 +49,10 @@ and-right false t e = never (cc)
 
 pub and-both : (s t : Bool) → s ≡ true → t ≡ true → s and t ≡ true
 and-both s t p q = rw (p, q)
+
+pub and-fails : (s t : Bool) → t ≡ false → s and t ≡ false
+and-fails true t e = e
+and-fails false t e = refl
 
 -- where s tests A and t tests B, one of them passes exactly when A or B holds
 pub or-iff : {A B : Type 0} (s t : Bool) → ((s ≡ true) ↔ A) → ((t ≡ true) ↔ B) → (s or t ≡ true) ↔ (A ⊎ B)

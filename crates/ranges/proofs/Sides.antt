@@ -1,18 +1,22 @@
 -- Laws of the first number past a range and of the range test (`specs/Sides.antt`).
 --     past-high, within-high, high-within       the code's tests on high, as facts on the first number past the range
+--     past-date, past-other                     the first number past a rule's range, of dates or not
+--     void-when                                 when a rule's range holds no number
 --     side-below, side-above, side-inside       which outcome a number has
 --     Lies, lies                                the three outcomes, with the facts that lead to each
 --     is-below, is-above, is-inside             what an outcome says of the number
 --     inside-yes, inside-at                     the outcome as a test
 -- Assumes nothing.
-use Prim.Native.Nat.{ℕ, _≤_, _<_}
-use mathlib.Core.Bool.{true, false}
+use Prim.Native.Nat.{ℕ, _+_, _≤_, _<_}
+use mathlib.Core.Bool.{Bool, true, false}
+use mathlib.Core.Logic.{_↔_}
 use mathlib.Core.Path.{_≡_, refl, ap}
 use native.Mathlib.Omega.{arith}
-use borrow.Author.Tests.{lt-ltb, le-ltb}
+use borrow.Author.Tests.{lt-ltb, le-ltb, le-leb, leb-true}
 use lib.Dec.{ltb}
+use Rattle.ranges.specs.Numbers.{pick}
 use Rattle.ranges.proofs.Numbers.{never}
-use Rattle.ranges.specs.Sides.{endOf, sideIn, sideOf, meetOf, isInside}
+use Rattle.ranges.specs.Sides.{endOf, pastOf, sideIn, sideOf, voidOf, meetOf, isInside}
 use Rattle.ranges.specs.declared.side.Side.{Side}
 use Rattle.ranges.specs.declared.side.Side.the-variants.{Below, Above, Inside}
 use Rattle.ranges.specs.declared.spot.Spot.{Spot}
@@ -31,6 +35,25 @@ module _ (high x : ℕ) where
   pub high-within : x < endOf high → x ≤ high
   unfolding endOf
   high-within lt = omega arith
+
+-- ---- the first number past a rule's range
+pub past-date : (high : ℕ) → pastOf true high ≡ high
+unfolding pastOf
+past-date high = refl
+
+pub past-other : (high : ℕ) → pastOf false high ≡ endOf high
+unfolding pastOf
+past-other high = refl
+
+-- a rule's range holds no number: of dates where high is at most low, else where it is less
+abbrev pub NoNumber : Bool → ℕ → ℕ → Type 0
+NoNumber date low high = pick date (high ≤ low) (high < low)
+
+pub void-when : (date : Bool) (low high : ℕ) → (voidOf low (pastOf date high) ≡ true) ↔ NoNumber date low high
+unfolding pastOf endOf
+void-when true low high = (λ e. leb-true high low e, λ le. le-leb high low le)
+void-when false low high =
+    (λ e. let le = leb-true (high + 1) low e in omega arith, λ lt. let le : high + 1 ≤ low = omega arith in le-leb (high + 1) low le)
 
 -- ---- which outcome a number has
 -- a spot inside the range is on its inside

@@ -16,11 +16,16 @@
 --     W2  spot-says                the six outcomes that tell a number at an end from one between, and what each says
 --         spot-one                 what one of them says holds of no number that has another
 --         both-iff                 at both ends exactly when low, the number and the last number of the range are one
+--     W8  due-day-is-past          a rule's dates do not hold its high, the due day
+--         last-day-is-inside       they hold the day before it, which is an end
+--         top-in-no-date           no rule's dates hold 4294967295
+--         void-iff                 a rule's range holds no number exactly when low > high, of dates when low ≥ high
 -- Assumes nothing.
 use Prim.Native.Nat.{ℕ, _+_, _-_, _*_, _/_, _%_, _^_, _≤_, _<_}
+use mathlib.Core.Bool.{Bool, true}
 use mathlib.Core.List.{List, _++_}
-use mathlib.Core.Logic.{⊎-elim, _⊎_, _↔_}
-use mathlib.Core.Path.{_≡_, sym, ap, _∙_}
+use mathlib.Core.Logic.{⊎-elim, _⊎_, inr, _↔_}
+use mathlib.Core.Path.{_≡_, refl, sym, ap, _∙_}
 use native.Mathlib.Omega.{arith}
 use native.Mathlib.Nat.{div-add-mod', mod-lt}
 use lib.ListN.{length, getD, drop}
@@ -29,15 +34,16 @@ use lib.Pow.{pow-pos}
 use lib.Seq.{getD-append-add, getD-drop}
 use borrow.Author.Tests.{ne-eqb}
 use Rattle.ranges.specs.Refusals.{refused, BadWidth, BadPrefix}
-use Rattle.ranges.specs.Spots.{spotOf}
-use Rattle.ranges.specs.Sides.{endOf, sideOf}
+use Rattle.ranges.specs.Spots.{spotOf, atEnd}
+use Rattle.ranges.specs.Sides.{endOf, pastOf, sideOf, voidOf}
 use Rattle.ranges.specs.Prefixes.{boundsOf, lastOf}
 use Rattle.ranges.specs.Blocks.{Ranged, prefixesOf, expandFault, runAfter, written, flat}
 use Rattle.ranges.specs.declared.prefix.Bounds.the-variants.{Are, Refused}
+use Rattle.ranges.specs.declared.side.Side.the-variants.{Above, Inside}
 use Rattle.ranges.specs.declared.spot.Spot.{Spot}
 use Rattle.ranges.specs.declared.spot.Spot.the-variants.{AtBoth}
-use Rattle.ranges.proofs.Spots.{Sits, sits, spot-is, both-ends-iff}
-use Rattle.ranges.proofs.Sides.{Lies, lies, within-high, past-high}
+use Rattle.ranges.proofs.Spots.{Sits, sits, spot-is, end-iff, both-ends-iff}
+use Rattle.ranges.proofs.Sides.{Lies, lies, within-high, past-high, past-date, NoNumber, void-when, side-above, side-inside, is-inside}
 use Rattle.ranges.proofs.Prefixes.{NoPrefix, bounds-9-iff, bounds-10-iff, bounds-are}
 use Rattle.ranges.proofs.Passes.{flat-length}
 use Rattle.ranges.proofs.Cover.{Each, TurnsBack, Largest, holders, prefixes-chain, chain-one, chain-before, chain-past, prefixes-turn-back, prefixes-largest}
@@ -135,3 +141,22 @@ spot-one = spot-is
 -- a number is at both ends exactly when it is low and the number after it is the first one past the range
 pub both-iff : (low past x : ℕ) → (spotOf low past x ≡ AtBoth) ↔ ((x ≡ low) × (x + 1 ≡ past))
 both-iff = both-ends-iff
+
+-- ---- W8
+-- the due day is past the range
+pub due-day-is-past : (low high : ℕ) → low ≤ high → sideOf low (pastOf true high) high ≡ Above
+due-day-is-past low high le = rw (past-date high) (side-above low high high le (omega arith))
+
+-- the day before it is inside, and at an end: the high one, or both where it is low too
+pub last-day-is-inside : (low day : ℕ) → low ≤ day
+    → (sideOf low (pastOf true (day + 1)) day ≡ Inside) × (atEnd (spotOf low (pastOf true (day + 1)) day) ≡ true)
+last-day-is-inside low day le =
+    rw (past-date (day + 1)) (side-inside low (day + 1) day le (omega arith), end-iff low (day + 1) day .1 record { from-low = le; to-past = omega arith; end = inr refl })
+
+-- high has 32 bits, so that the largest number of 32 bits lies before no high
+pub top-in-no-date : (low high : ℕ) → high < 2 ^ 32 → sideOf low (pastOf true high) (2 ^ 32 - 1) ≡ Inside → ⊥
+top-in-no-date low high few e = let at = is-inside low (pastOf true high) (2 ^ 32 - 1) e in omega (arith, at .1, past-date high)
+
+-- a rule's range holds no number exactly when low > high, and of dates also when low = high
+pub void-iff : (date : Bool) (low high : ℕ) → (voidOf low (pastOf date high) ≡ true) ↔ NoNumber date low high
+void-iff = void-when

@@ -1,7 +1,7 @@
 -- 01, Lists and headers: the range test, whose outcomes are tried in the order below, above, inside.
 -- A range is its low and the first number past it: the test, void and meeting know nothing of how a range ends.
--- `endOf` and `closedAt` alone say that a range low to high is closed at both ends. Contracts above cite `sideOf`;
--- proofs use its laws (`proofs/Sides.antt`) and do not unfold it.
+-- `endOf` and `closedAt` alone say that a range low to high is closed at both ends, and `pastOf` that a range of dates is not (02,
+-- W8). Contracts above cite `sideOf`; proofs use its laws (`proofs/Sides.antt`) and do not unfold it.
 -- Assumes nothing: these are definitions.
 use Prim.Native.Nat.{ℕ, _+_}
 use mathlib.Core.Bool.{Bool, true, false}
@@ -21,6 +21,16 @@ endOf high = high + 1
 -- the range low to high, both counted
 abbrev pub closedAt : ℕ → ℕ → Range
 closedAt low high = record { low = low; past = endOf high }
+
+-- the first number past a rule's range that ends at high, of dates or not: a date's high is the due day, which is no valid day
+-- (of dates 5-9, 8 is the last day and 9 is past; of others, 9 is the last number)
+unfoldable pub pastOf : Bool → ℕ → ℕ
+pastOf true high = high
+pastOf false high = endOf high
+
+-- a rule's range
+abbrev pub rangeOf : Bool → ℕ → ℕ → Range
+rangeOf date low high = record { low = low; past = pastOf date high }
 
 -- the side that a spot is on: all but below and above are inside
 abbrev pub sideIn : Spot → Side

@@ -1,8 +1,8 @@
-// A range, and the tests of it: the single range test, whether it holds a number, whether two share one.
+// A range, its makers, and the tests of it: the single range test, whether it holds a number, whether two share one.
 use crate::spot::Spot;
 use crate::spot::spot_of;
 ghost use mathlib.Core.Path.{_≡_};
-ghost use Rattle.ranges.specs.Sides.{closedAt, sideIn, sideOf, voidOf, meetOf};
+ghost use Rattle.ranges.specs.Sides.{closedAt, rangeOf, sideIn, sideOf, voidOf, meetOf};
 
 // On which side of a range a number lies, in the order in which the outcomes are tried.
 pub enum Side {
@@ -17,7 +17,7 @@ pub struct Range {
     pub past: u64,
 }
 
-// Makes the range low to high, both counted. Nothing else knows how a range ends.
+// Makes the range low to high, both counted. Nothing but this and `range_of` knows how a range ends.
 pub fn closed(low: u32, high: u32) -> Range
     ensures { λ r. ⌜ r ≡ closedAt low high ⌝ }
 {
@@ -25,6 +25,20 @@ pub fn closed(low: u32, high: u32) -> Range
         low,
         past: high as u64 + 1,
     }
+}
+
+// Makes the range of a rule from its low and its high: of dates, low to before high, since a due day is no valid day; else low
+// to high, both counted.
+pub fn range_of(date: bool, low: u32, high: u32) -> Range
+    ensures { λ r. ⌜ r ≡ rangeOf date low high ⌝ }
+{
+    if date {
+        return Range {
+            low,
+            past: high as u64,
+        };
+    }
+    closed(low, high)
 }
 
 // Says on which side a spot is: all but below and above are inside.

@@ -2,30 +2,14 @@
 use crate::count_parts::parts_in;
 use lists::shape::MOST_RULES;
 use lists::shape::Shape;
-use ordering::compare::compare_rules;
-use ranges::standing::Standing;
+use ordering::compare::rules_clash;
 ghost use mathlib.Core.Path.{_≡_};
 ghost use Prim.Native.Nat.{_<_};
 ghost use Rattle.lists.specs.Limits.{mostRules};
 ghost use Rattle.lists.specs.Rules.{listed};
-ghost use Rattle.ordering.specs.Order.{clash};
 ghost use Rattle.sorting.specs.FirstFit.{Chosen};
 ghost use Rattle.sorting.specs.Asked.{TwoRules, Numbered};
 ghost use Rattle.sorting.specs.Marks.{markOf, stamped, unstamped, Marking};
-
-// Says whether rules i and j clash.
-fn clashes(shape: Shape, list: &[u32], i: u16, j: u16) -> bool
-    requires { ⌜ TwoRules (listed shape (now list)) i j ⌝ }
-    ensures { λ r. ⌜ r ≡ clash (listed shape (now (list .entry))) i j ⌝ }
-{
-    let s = compare_rules(shape, list, i, j);
-    match s {
-        Standing::Alike => true,
-        Standing::Before => false,
-        Standing::After => false,
-        Standing::Clash => true,
-    }
-}
 
 // Gives the stamp of rule j's partition, which was old, once rule i is held against rule j. Where the partition is
 // taken already, the two rules are not compared.
@@ -36,7 +20,7 @@ fn mark_of(shape: Shape, list: &[u32], i: u16, j: u16, old: u16) -> u16
     if old == i + 1 {
         return old;
     }
-    if clashes(shape, list, j, i) {
+    if rules_clash(shape, list, j, i) {
         return i + 1;
     }
     old
