@@ -1,6 +1,6 @@
-# The proved code against that of the commit before, both in one program. The same machine code at another address was measured at 1.03 to
-# 1.13: so functions whose machine code is the same are not timed, and the others are timed at four placements. Sourced by bench/run;
-# uses here, out, flags, machine, archive, before, say, die, need, proved, machine_named, code_named and load_named.
+# The proved code against that of the commit before, both in one program. Functions whose machine code is the same are not timed, and the
+# others are timed at four placements (bench/place.sh). Sourced by bench/run; uses here, out, machine, archive, before, say, die, need,
+# proved, machine_named, code_named and load_named.
 # With BENCH_ALWAYS=1 in the environment what has the same code is timed too, and nothing is written: this tests the bench itself.
 
 compared=(lookup build plain_scan check audit independence report range_to_prefixes)
@@ -21,35 +21,24 @@ keep_before() { # FILE
     [ -f "$1" ] && [ -r "$1" ] || refuse "$1 is not there or can not be read: $how"
     ar t "$1" >/dev/null 2>&1 || refuse "$1 is not an archive: $how"
     has "$1" 'cuy_.*' || refuse "$1 has no function cuy_..: $how"
-    for name in "${compared[@]}"; do has "$1" "cuy_$name" || refuse "$1 has no function cuy_$name, which bench/src/sides.h calls: $how"; done
+    for name in "${compared[@]}" version; do has "$1" "cuy_$name" || refuse "$1 has no function cuy_$name, which bench/src/sides.h calls: $how"; done
     cp "$1" "$out/before.a"
 }
 has() { nm -g --defined-only "$1" 2>/dev/null | grep -q " T $2\$"; } # FILE PATTERN
 
 # Links an archive into one object, and writes a line for each of its functions: the code that it reaches.
-one_object() { # ARCHIVE NAME: target/bench/NAME.o, NAME.code
-    ld -r --whole-archive "$1" -o "$out/$2.o" || refuse "$1 can not be linked for x86-64: $how"
+code_of() { # ARCHIVE NAME: target/bench/NAME.o, NAME.code
+    one_object "$1" "$2" || refuse "$1 can not be linked for x86-64: $how"
     objdump -t -s -r "$out/$2.o" | awk -v side="$2" -f "$here/code.awk" | sort >"$out/$2.code"
-}
-
-# Links the program with some bytes between a page's start and the code of each archive, and stops where the code does not lie there.
-place() { # BYTES
-    local side offsets=''
-    printf '.text\n.balign 4096\n.skip %s, 0xcc\n.section .note.GNU-stack,"",@progbits\n' "$1" | cc -c -x assembler - -o "$out/pad.o"
-    cc $flags -falign-functions=64 "$here"/src/{before,lists,ranges}.c "$out/pad.o" "$out/before.o" "$out/pad.o" "$out/new.o" -o "$out/before"
-    for side in before_ ''; do
-        offsets+=" $(((0x$(nm "$out/before" | sed -n "s/ T ${side}cuy_lookup\$//p") - $1) % 4096))"
-    done
-    [ "${placed:=$offsets}" = "$offsets" ] || die "the linker does not move the code by the bytes before it:$placed, then$offsets"
 }
 
 # Compares and times; writes target/bench/before.lines.
 against_before() { # FUNCTION..
-    local timed=() name word bytes placed=''
+    local timed=() name word
     proved staticlib interface
     [ -f "$archive" ] || refuse 'target/staticlib/libinterface.a is not built: leave --built out'
-    one_object "$out/before.a" before
-    one_object "$archive" new
+    code_of "$out/before.a" before
+    code_of "$archive" new
     nm -g --defined-only --format=posix "$out/before.o" | awk '{ print $1, "before_" $1 }' >"$out/names"
     objcopy --redefine-syms="$out/names" "$out/before.o"
     awk 'NR == FNR { before[$1] = $0; next }
@@ -62,12 +51,7 @@ against_before() { # FUNCTION..
     done
     sed -n 's/^code \(.*\) \(.*\)/bench: \1: \2 code/p' "$out/before.lines" >&2
     [ ${#timed[@]} -gt 0 ] || return 0
-    for bytes in 16 32 48 64; do
-        say "${timed[*]}, $bytes bytes before the code .."
-        place "$bytes"
-        "$out/before" "${timed[@]}" >"$out/before.turn"
-        sed 's/^/before /' "$out/before.turn" >>"$out/before.lines"
-    done
+    at_placements before 'before lists ranges' 'before new' "${timed[@]}"
 }
 
 # Prints the section: what was compared, where, how and with what outcome.
@@ -85,6 +69,7 @@ Written by \`bench/run --before FILE\`, in a run of its own: time of the new cod
   archives are linked into one program and take turns of at least 2 ms of processor time, 31 each; their ratio is the median over the pairs of turns. The
   program is linked four times, with 16, 32, 48 and 64 bytes between a page's start and the code of each archive; new over before is the mean of the four
   ratios, least and most stand beside it. Each side looks up in the table that it built itself; every table, answer and prefix of both is compared first.
+  No field is a date.
 - How far to trust it: the same code on both sides, on one of them 16, 32 or 48 bytes further on, came out in this way at 0.99 to 1.01 for lookup, 0.98 to 1.04
   for build, 0.95 to 1.06 for plain_scan, audit and report, and 0.99 to 1.34 for check and independence, whose loops are a few instructions long (measured
   once, when this bench was written, on two processors under load); range_to_prefixes, at the same place on both sides, at 0.98 to 1.01.

@@ -8,9 +8,21 @@
  *
  * A list is a run of 32-bit numbers, 2d a rule: low and high of field 0, then of field 1, and so on. d fields, 1 to 8; n
  * rules, 0 to 1,024. Rule numbers start at 0; a lower number has the higher priority. A header is eight 32-bit numbers,
- * of which the first d are read. A rule fits a header when low <= number <= high in all d fields; the first match is the
- * smallest rule number that fits. A table is a run of 16-bit numbers, exactly CUY_TABLE_LENGTH(n, d) long. A list has at most
- * CUY_MAX_LIST numbers, and a table CUY_MAX_TABLE.
+ * of which the first d are read. A rule fits a header when in all d fields the number lies in the rule's range; the first
+ * match is the smallest rule number that fits. A table is a run of 16-bit numbers, exactly CUY_TABLE_LENGTH(n, d) long. A
+ * list has at most CUY_MAX_LIST numbers, and a table CUY_MAX_TABLE.
+ *
+ * Dates
+ *
+ * The flags `dates`, given with each list, say which fields are dates: bit f is set where field f is one, so 1 says field 0,
+ * 3 says fields 0 and 1, and 0 says none. Bits past d, and past the eighth, alter nothing. In a date a number lies in a range
+ * when low <= number < high, since the due day is no valid day; in any other field when low <= number <= high. So the dates
+ * 1-5 and 5-9 have no day in common, 5-5 has no day and is refused as 5-4 is, and 4294967295 lies in no range of dates. The
+ * ends of a range are the first and the last number in it: low, and high - 1 in a date or high in any other field. Prefixes
+ * know no dates.
+ *
+ * The flags belong to the list, as d does, and a table to the list and the flags that it was built for. What a lookup with
+ * other flags gives is said at cuy_lookup.
  *
  * What comes back
  *
@@ -46,8 +58,10 @@ extern "C" {
 #endif
 
 /* The version of this header; cuy_version() gives that of the archive. Raised whenever an answer's numbers or a function's
- * parameters change: where the two differ, header and archive do not belong together. */
-#define CUY_VERSION 2
+ * parameters change: where the two differ, header and archive do not belong together.
+ * Version 3 has the parameter `dates` after d in the seven functions that are given a list. Callers of an older version must
+ * be altered, by 0 there for a list without dates, and compiled anew: no linker notices that a parameter is missing. */
+#define CUY_VERSION 3
 
 /* The limits: fields of a rule, rules of a list, numbers of the longest list and of the longest table. */
 #define CUY_MAX_FIELDS 8
@@ -62,7 +76,7 @@ extern "C" {
     X(CUY_BAD_FIELDS, 1, "d is not 1 to 8") \
     X(CUY_BAD_LENGTH, 2, "the list's length is no multiple of 2d") \
     X(CUY_TOO_MANY_RULES, 3, "more than 1,024 rules") \
-    X(CUY_LOW_ABOVE_HIGH, 4, "some low is above its high") \
+    X(CUY_LOW_ABOVE_HIGH, 4, "some low is above its high, or equal to it in a date") \
     X(CUY_BAD_TABLE_LENGTH, 5, "the table's length is not that of n rules of d fields") \
     X(CUY_BROKEN_TABLE, 6, "broken table: numbers of it that the call reads do not hold together") \
     X(CUY_NO_SUCH_PARTITION, 7, "the partition number is not below the number of partitions") \
@@ -104,45 +118,46 @@ uint32_t cuy_version(void);
 
 /* Checks a list. Answers n, the number of its rules, in answer[3].
  * Refuses with 1, 2, 3, 4. */
-uint32_t cuy_check(size_t d, const uint32_t *list, size_t list_length, uint64_t answer[4]);
+uint32_t cuy_check(size_t d, uint32_t dates, const uint32_t *list, size_t list_length, uint64_t answer[4]);
 
 /* Scans a list plainly. Answers 1 in answer[3] and the first match in answer[4]; or 0 in both where no rule fits.
  * Refuses with 1, 2, 3, 4. */
-uint32_t cuy_plain_scan(size_t d, const uint32_t *list, size_t list_length, const uint32_t header[8],
+uint32_t cuy_plain_scan(size_t d, uint32_t dates, const uint32_t *list, size_t list_length, const uint32_t header[8],
                         uint64_t answer[5]);
 
 /* Tests a list for order independence. Answers 1 in answer[3], and 0 in answer[4] and [5], exactly when no header fits two
  * different rules. Otherwise 0 in answer[3], and in answer[4] < answer[5] the pair of rules that some header fits, with
  * the smallest first rule number, then the smallest second.
  * Refuses with 1, 2, 3, 4. */
-uint32_t cuy_independence(size_t d, const uint32_t *list, size_t list_length, uint64_t answer[6]);
+uint32_t cuy_independence(size_t d, uint32_t dates, const uint32_t *list, size_t list_length, uint64_t answer[6]);
 
-/* Builds the table of a list: writes every number of it. Answers b, the number of its partitions, in answer[3].
+/* Builds the table of a list and its flags: writes every number of it. Answers b, the number of its partitions, in answer[3].
  * Refuses with 1, 2, 3, 4, 5. */
-uint32_t cuy_build(size_t d, const uint32_t *list, size_t list_length, uint16_t *table, size_t table_length,
-                   uint64_t answer[4]);
+uint32_t cuy_build(size_t d, uint32_t dates, const uint32_t *list, size_t list_length, uint16_t *table,
+                   size_t table_length, uint64_t answer[4]);
 
 /* Looks a header up in a table. Answers 1 in answer[3] and a rule number in answer[4], or 0 in both where no rule fits; in
  * answer[5] the number of range tests; and in answer[6] 1 where that rule is at an edge, which means that in one of the d
- * fields or more the header's number is the low or the high of its range, else 0, also where no rule fits. In a table that
- * cuy_build wrote for this list the rule is the first match, and nothing is refused. In any other table a rule that is
- * answered still fits the header, and the edge is its own.
+ * fields or more the header's number is an end of its range, else 0, also where no rule fits. In a table that cuy_build wrote
+ * for this list and these flags the rule is the first match, and nothing is refused. In any other table, and so in one that
+ * was built with other flags for the d fields, a rule that is answered still fits the header, by the flags of this call, and
+ * the edge is its own; but a rule that fits may be passed by, and the table may be refused with 6.
  * Refuses with 1, 2, 3, 5, 6; never with 4, since it does not read the whole list.
  * In version 1 the answer had six numbers: who still lends six is written past. */
-uint32_t cuy_lookup(size_t d, const uint32_t *list, size_t list_length, const uint16_t *table, size_t table_length,
-                    const uint32_t header[8], uint64_t answer[7]);
+uint32_t cuy_lookup(size_t d, uint32_t dates, const uint32_t *list, size_t list_length, const uint16_t *table,
+                    size_t table_length, const uint32_t header[8], uint64_t answer[7]);
 
 /* Audits a table. Answers 1 in answer[3] exactly when every number of the table is what cuy_build would write for this
- * list, else 0.
+ * list and these flags, else 0.
  * Refuses with 1, 2, 3, 4, 5. */
-uint32_t cuy_audit(size_t d, const uint32_t *list, size_t list_length, const uint16_t *table, size_t table_length,
-                   uint64_t answer[4]);
+uint32_t cuy_audit(size_t d, uint32_t dates, const uint32_t *list, size_t list_length, const uint16_t *table,
+                   size_t table_length, uint64_t answer[4]);
 
 /* Reports on a partition of a table. Answers its size in answer[3] and its smallest rule number in answer[4], worked out
- * by reading its places.
+ * by reading its places. It reads no range: the flags alter nothing, and are taken so that all these calls have one form.
  * Refuses with 1, 2, 3, 5, with 6 for a table that does not open, with 7, with 6 for a broken partition. */
-uint32_t cuy_report(size_t d, const uint32_t *list, size_t list_length, const uint16_t *table, size_t table_length,
-                    size_t partition, uint64_t answer[5]);
+uint32_t cuy_report(size_t d, uint32_t dates, const uint32_t *list, size_t list_length, const uint16_t *table,
+                    size_t table_length, size_t partition, uint64_t answer[5]);
 
 /* Turns a prefix of a width into its range. Answers low in answer[3] and high in answer[4], both counted.
  * Refuses with 9, 10. */

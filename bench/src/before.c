@@ -9,7 +9,7 @@
 #include <stdlib.h>
 #include <string.h>
 
-enum { HEADERS = 2048, SCANS = 256, LONGEST = 32768, PAIRS = 31 };
+enum { HEADERS = 2048, SCANS = 256, LONGEST = 32768 };
 
 static struct list list;
 static uint32_t headers[HEADERS][8];
@@ -68,26 +68,12 @@ static void compare(const struct kind *kind, const char *character) {
     }
 }
 
-static int rising(const void *a, const void *z) { return (*(const double *)a > *(const double *)z) - (*(const double *)a < *(const double *)z); }
-
-static double median(double *xs) {
-    qsort(xs, PAIRS, sizeof *xs, rising);
-    return xs[PAIRS / 2];
-}
-
-// Lets both sides take turns and prints the median over the rounds of new over before, and of the nanoseconds of one step before. What slows
-// the machine down for a while slows both turns of a round, so the median ratio stands where the best turns of each side do not: under
-// load, the best of nine of the same code were measured at 0.78 to 1.21 of each other.
+// Lets both sides take turns and prints new over before, and the nanoseconds of one step before.
 static void time_both(const struct kind *kind) {
     struct contender those[] = {{"before", pass_before, steps_of(kind), 0}, {"new", pass_new, steps_of(kind), 0}};
-    double turns[PAIRS][MOST_CONTENDERS], ratios[PAIRS], before[PAIRS];
     timed = kind->pass;
-    take_rounds(those, 2, 2e6, PAIRS, turns);
-    for (int round = 0; round < PAIRS; round++) {
-        ratios[round] = turns[round][NEW] / turns[round][BEFORE];
-        before[round] = turns[round][BEFORE];
-    }
-    printf(" %.4f %.2f\n", median(ratios), median(before));
+    struct pair both = take_pairs(those, 2e6);
+    printf(" %.4f %.2f\n", both.ratio, both.first);
     fflush(stdout);
 }
 
@@ -138,6 +124,11 @@ static void measure_ranges(int kind) {
 int main(int count, char **words) {
     static const size_t sizes[] = {16, 128, 512, 1024};
     struct draw from = {SEED};
+    // a function that is handed other parameters than it has may answer anything
+    if (before_cuy_version() != BEFORE_VERSION || cuy_version() != CUY_VERSION) {
+        fprintf(stderr, "bench: the archives are of versions %u and %u, and bench/src/sides.h calls %d and %d\n", before_cuy_version(), cuy_version(), BEFORE_VERSION, CUY_VERSION);
+        exit(1);
+    }
     for (int i = 1; i < count; i++) {
         for (size_t k = 0; k < KINDS; k++)
             if (strcmp(words[i], kinds[k].name) == 0) kinds[k].wanted = 1;

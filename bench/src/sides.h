@@ -6,7 +6,7 @@
 #include "ranges.h"
 
 // What both sides must answer alike: the first so many numbers of each answer, and whether every number of the tables.
-enum { ALIKE = 6, TABLES_ALIKE = 1, MOST_ANSWERED = 8 };
+enum { ALIKE = 7, TABLES_ALIKE = 1, MOST_ANSWERED = 8 };
 
 // What a call is lent beside its header: n rules of d fields, `length` numbers of the list, and the side's own table.
 struct lent {
@@ -28,14 +28,16 @@ struct side {
     uint32_t (*range_to_prefixes)(uint32_t width, struct range r, uint32_t *run, uint64_t *answer);
 };
 
-// The side before. Where the header has changed, the line below says what the signature was.
-extern __typeof__(cuy_check) before_cuy_check;
-extern __typeof__(cuy_plain_scan) before_cuy_plain_scan;
-extern __typeof__(cuy_independence) before_cuy_independence;
-extern __typeof__(cuy_build) before_cuy_build;
-extern __typeof__(cuy_lookup) before_cuy_lookup;
-extern __typeof__(cuy_audit) before_cuy_audit;
-extern __typeof__(cuy_report) before_cuy_report;
+// The side before, of this version. Where the header has changed, the line below says what the signature was.
+enum { BEFORE_VERSION = 2 };
+extern __typeof__(cuy_version) before_cuy_version;
+extern uint32_t before_cuy_check(size_t d, const uint32_t *list, size_t list_length, uint64_t *answer);
+extern uint32_t before_cuy_plain_scan(size_t d, const uint32_t *list, size_t list_length, const uint32_t *header, uint64_t *answer);
+extern uint32_t before_cuy_independence(size_t d, const uint32_t *list, size_t list_length, uint64_t *answer);
+extern uint32_t before_cuy_build(size_t d, const uint32_t *list, size_t list_length, uint16_t *table, size_t table_length, uint64_t *answer);
+extern uint32_t before_cuy_lookup(size_t d, const uint32_t *list, size_t list_length, const uint16_t *table, size_t table_length, const uint32_t *header, uint64_t *answer);
+extern uint32_t before_cuy_audit(size_t d, const uint32_t *list, size_t list_length, const uint16_t *table, size_t table_length, uint64_t *answer);
+extern uint32_t before_cuy_report(size_t d, const uint32_t *list, size_t list_length, const uint16_t *table, size_t table_length, size_t partition, uint64_t *answer);
 extern __typeof__(cuy_range_to_prefixes) before_cuy_range_to_prefixes;
 
 static size_t before_table_length(size_t n, size_t d) { return 4 + 2 * n + 2 * n * d; }
@@ -48,15 +50,16 @@ static uint32_t before_audit(const struct lent *l, uint64_t *a) { return before_
 static uint32_t before_report(const struct lent *l, size_t k, uint64_t *a) { return before_cuy_report(l->d, l->list, l->length, l->table, l->table_length, k, a); }
 static uint32_t before_range_to_prefixes(uint32_t width, struct range r, uint32_t *run, uint64_t *a) { return before_cuy_range_to_prefixes(width, r.low, r.high, run, MOST_NUMBERS, a); }
 
-// The new side, as the header has it.
+// The new side, as the header has it. The side before knows no dates, so none is a date here.
+enum { NO_DATES = 0 };
 static size_t new_table_length(size_t n, size_t d) { return CUY_TABLE_LENGTH(n, d); }
-static uint32_t new_check(const struct lent *l, uint64_t *a) { return cuy_check(l->d, l->list, l->length, a); }
-static uint32_t new_plain_scan(const struct lent *l, const uint32_t *h, uint64_t *a) { return cuy_plain_scan(l->d, l->list, l->length, h, a); }
-static uint32_t new_independence(const struct lent *l, uint64_t *a) { return cuy_independence(l->d, l->list, l->length, a); }
-static uint32_t new_build(const struct lent *l, uint64_t *a) { return cuy_build(l->d, l->list, l->length, l->table, l->table_length, a); }
-static uint32_t new_lookup(const struct lent *l, const uint32_t *h, uint64_t *a) { return cuy_lookup(l->d, l->list, l->length, l->table, l->table_length, h, a); }
-static uint32_t new_audit(const struct lent *l, uint64_t *a) { return cuy_audit(l->d, l->list, l->length, l->table, l->table_length, a); }
-static uint32_t new_report(const struct lent *l, size_t k, uint64_t *a) { return cuy_report(l->d, l->list, l->length, l->table, l->table_length, k, a); }
+static uint32_t new_check(const struct lent *l, uint64_t *a) { return cuy_check(l->d, NO_DATES, l->list, l->length, a); }
+static uint32_t new_plain_scan(const struct lent *l, const uint32_t *h, uint64_t *a) { return cuy_plain_scan(l->d, NO_DATES, l->list, l->length, h, a); }
+static uint32_t new_independence(const struct lent *l, uint64_t *a) { return cuy_independence(l->d, NO_DATES, l->list, l->length, a); }
+static uint32_t new_build(const struct lent *l, uint64_t *a) { return cuy_build(l->d, NO_DATES, l->list, l->length, l->table, l->table_length, a); }
+static uint32_t new_lookup(const struct lent *l, const uint32_t *h, uint64_t *a) { return cuy_lookup(l->d, NO_DATES, l->list, l->length, l->table, l->table_length, h, a); }
+static uint32_t new_audit(const struct lent *l, uint64_t *a) { return cuy_audit(l->d, NO_DATES, l->list, l->length, l->table, l->table_length, a); }
+static uint32_t new_report(const struct lent *l, size_t k, uint64_t *a) { return cuy_report(l->d, NO_DATES, l->list, l->length, l->table, l->table_length, k, a); }
 static uint32_t new_range_to_prefixes(uint32_t width, struct range r, uint32_t *run, uint64_t *a) { return cuy_range_to_prefixes(width, r.low, r.high, run, MOST_NUMBERS, a); }
 
 enum { BEFORE, NEW };

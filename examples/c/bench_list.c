@@ -5,7 +5,7 @@
 #include <inttypes.h>
 #include <stdio.h>
 
-enum { FIELDS = 2, RULES = 5, HEADERS = 7, TABLE = CUY_TABLE_LENGTH(RULES, FIELDS) };
+enum { FIELDS = 2, NO_DATES = 0, RULES = 5, HEADERS = 7, TABLE = CUY_TABLE_LENGTH(RULES, FIELDS) };
 
 /* model and serial: low and high of each */
 static const uint32_t list[RULES * 2 * FIELDS] = {
@@ -30,11 +30,11 @@ static int refused(uint32_t number) {
 int main(void) {
     uint16_t table[TABLE];
     uint64_t built[4], found[7];
-    uint32_t number = cuy_build(FIELDS, list, sizeof list / sizeof list[0], table, TABLE, built);
+    uint32_t number = cuy_build(FIELDS, NO_DATES, list, sizeof list / sizeof list[0], table, TABLE, built);
     if (number != 0) return refused(number);
     printf("rule,tests\n");
     for (int i = 0; i < HEADERS; i++) {
-        number = cuy_lookup(FIELDS, list, sizeof list / sizeof list[0], table, TABLE, headers[i], found);
+        number = cuy_lookup(FIELDS, NO_DATES, list, sizeof list / sizeof list[0], table, TABLE, headers[i], found);
         if (number != 0) return refused(number);
         if (found[3] == 1)
             printf("%" PRIu64 ",%" PRIu64 "\n", found[4], found[5]);

@@ -6,7 +6,7 @@
 #include <stdio.h>
 #include <string.h>
 
-enum { FIELDS = 2, RULES = 256, THREADS = 8, HEADERS = 50000, LIST = RULES * 2 * FIELDS };
+enum { FIELDS = 2, NO_DATES = 0, RULES = 256, THREADS = 8, HEADERS = 50000, LIST = RULES * 2 * FIELDS };
 enum { TABLE = CUY_TABLE_LENGTH(RULES, FIELDS) };
 
 static uint32_t list[LIST], headers[HEADERS][8];
@@ -33,8 +33,8 @@ static void fill(void) {
 static int answer_all(void) {
     for (int i = 0; i < HEADERS; i++) {
         uint64_t scanned[5];
-        if (cuy_lookup(FIELDS, list, LIST, table, TABLE, headers[i], expected[i]) != 0) return 0;
-        if (cuy_plain_scan(FIELDS, list, LIST, headers[i], scanned) != 0) return 0;
+        if (cuy_lookup(FIELDS, NO_DATES, list, LIST, table, TABLE, headers[i], expected[i]) != 0) return 0;
+        if (cuy_plain_scan(FIELDS, NO_DATES, list, LIST, headers[i], scanned) != 0) return 0;
         if (expected[i][3] != scanned[3] || expected[i][4] != scanned[4]) return 0;
     }
     return 1;
@@ -46,7 +46,7 @@ static void *look_up(void *place) {
     for (unsigned k = 0; k < HEADERS; k++) {
         unsigned i = (first + k) % HEADERS;
         uint64_t found[7];
-        if (cuy_lookup(FIELDS, list, LIST, table, TABLE, headers[i], found) != 0) continue;
+        if (cuy_lookup(FIELDS, NO_DATES, list, LIST, table, TABLE, headers[i], found) != 0) continue;
         if (memcmp(found, expected[i], sizeof found) == 0) count++;
     }
     *right = count;
@@ -58,7 +58,7 @@ int main(void) {
     unsigned right[THREADS], all = 0;
     uint64_t built[4];
     fill();
-    if (cuy_build(FIELDS, list, LIST, table, TABLE, built) != 0 || !answer_all()) return 1;
+    if (cuy_build(FIELDS, NO_DATES, list, LIST, table, TABLE, built) != 0 || !answer_all()) return 1;
     for (unsigned i = 0; i < THREADS; i++) {
         right[i] = i * (HEADERS / THREADS);
         if (pthread_create(&threads[i], NULL, look_up, &right[i]) != 0) return 1;

@@ -1,11 +1,12 @@
 /* Calls every function of the interface on 01's worked cases and on inputs that it refuses, and prints each answer: what is
- * answered, or refused, the number and the place. The prototypes of the header are held to the proved functions by this. */
+ * answered, or refused, the number and the place. The prototypes of the header are held to the proved functions by this. No
+ * field is a date here; due_date.c has dates. */
 #include "cuyenalot.h"
 
 #include <inttypes.h>
 #include <stdio.h>
 
-enum { FIELDS = 2, RULES = 5, NUMBERS = RULES * 2 * FIELDS, TABLE = CUY_TABLE_LENGTH(RULES, FIELDS) };
+enum { FIELDS = 2, NO_DATES = 0, RULES = 5, NUMBERS = RULES * 2 * FIELDS, TABLE = CUY_TABLE_LENGTH(RULES, FIELDS) };
 
 /* the bench list */
 static const uint32_t bench[NUMBERS] = {7, 7, 100, 100, 7, 7, 200, 299, 8, 8, 0, 999, 7, 7, 0, 999, 0, 9, 0, 999};
@@ -40,43 +41,43 @@ static void say(const char *what, uint32_t number, const uint64_t *answer, int k
 
 static void check(const char *what, size_t d, const uint32_t *list, size_t length) {
     uint64_t answer[4] = {9, 9, 9, 9};
-    uint32_t number = cuy_check(d, list, length, answer);
+    uint32_t number = cuy_check(d, NO_DATES, list, length, answer);
     say(what, number, answer, 1);
 }
 
 static void scan(const char *what, const uint32_t *list, const uint32_t header[8]) {
     uint64_t answer[5] = {9, 9, 9, 9, 9};
-    uint32_t number = cuy_plain_scan(FIELDS, list, NUMBERS, header, answer);
+    uint32_t number = cuy_plain_scan(FIELDS, NO_DATES, list, NUMBERS, header, answer);
     say(what, number, answer, 2);
 }
 
 static void independence(const char *what, const uint32_t *list, size_t length) {
     uint64_t answer[6] = {9, 9, 9, 9, 9, 9};
-    uint32_t number = cuy_independence(FIELDS, list, length, answer);
+    uint32_t number = cuy_independence(FIELDS, NO_DATES, list, length, answer);
     say(what, number, answer, 3);
 }
 
 static void build(const char *what, size_t d, const uint32_t *list, size_t length, uint16_t *table, size_t table_length) {
     uint64_t answer[4] = {9, 9, 9, 9};
-    uint32_t number = cuy_build(d, list, length, table, table_length, answer);
+    uint32_t number = cuy_build(d, NO_DATES, list, length, table, table_length, answer);
     say(what, number, answer, 1);
 }
 
 static void lookup(const char *what, const uint16_t *table, size_t table_length, const uint32_t header[8]) {
     uint64_t answer[7] = {9, 9, 9, 9, 9, 9, 9};
-    uint32_t number = cuy_lookup(FIELDS, bench, NUMBERS, table, table_length, header, answer);
+    uint32_t number = cuy_lookup(FIELDS, NO_DATES, bench, NUMBERS, table, table_length, header, answer);
     say(what, number, answer, 4);
 }
 
 static void audit(const char *what, const uint32_t *list, const uint16_t *table) {
     uint64_t answer[4] = {9, 9, 9, 9};
-    uint32_t number = cuy_audit(FIELDS, list, NUMBERS, table, TABLE, answer);
+    uint32_t number = cuy_audit(FIELDS, NO_DATES, list, NUMBERS, table, TABLE, answer);
     say(what, number, answer, 1);
 }
 
 static void report(const char *what, const uint16_t *table, size_t partition) {
     uint64_t answer[5] = {9, 9, 9, 9, 9};
-    uint32_t number = cuy_report(FIELDS, bench, NUMBERS, table, TABLE, partition, answer);
+    uint32_t number = cuy_report(FIELDS, NO_DATES, bench, NUMBERS, table, TABLE, partition, answer);
     say(what, number, answer, 2);
 }
 

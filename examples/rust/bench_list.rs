@@ -3,9 +3,12 @@
 #[allow(dead_code)]
 mod cuyenalot;
 
-use cuyenalot::{build, lookup, table_length, Header, Refusal};
+use cuyenalot::{build, lookup, table_length, Header, Refusal, Shape};
 
 const FIELDS: usize = 2;
+
+/// Two fields, none of them a date.
+const SHAPE: Shape = Shape::of(FIELDS);
 
 /// Model and serial, low and high of each, of rules 0 to 4.
 const LIST: [u32; 20] = [
@@ -21,11 +24,11 @@ const HEADERS: [(u32, u32); 7] = [(7, 250), (7, 100), (7, 150), (8, 5), (9, 5), 
 
 fn classify() -> Result<(), Refusal> {
     let mut table = [0; table_length(5, FIELDS)];
-    build(FIELDS, &LIST, &mut table)?;
+    build(SHAPE, &LIST, &mut table)?;
     println!("rule,tests");
     for (model, serial) in HEADERS {
         let header: Header = [model, serial, 0, 0, 0, 0, 0, 0];
-        let looked = lookup(FIELDS, &LIST, &table, &header)?;
+        let looked = lookup(SHAPE, &LIST, &table, &header)?;
         match looked.rule {
             Some(rule) => println!("{},{}", rule, looked.tests),
             None => println!("none,{}", looked.tests),

@@ -7,8 +7,28 @@
 /// A header: eight numbers, of which the first d are read.
 pub type Header = [u32; 8];
 
+/// What a list's numbers mean: d, the number of fields of a rule, and which of them are dates, flag f for field f; flags past
+/// d alter nothing. In a date a range holds low to before high, in any other field low to high, both counted.
+#[derive(Clone, Copy, Debug, PartialEq, Eq)]
+pub struct Shape {
+    pub d: usize,
+    pub dates: [bool; 8],
+}
+
+impl Shape {
+    /// The shape of a list of d fields a rule, whatever d is, none of them a date.
+    pub const fn of(d: usize) -> Shape {
+        Shape { d, dates: [false; 8] }
+    }
+
+    /// d, and the flags as the C functions take them: bit f for field f.
+    fn numbers(&self) -> (usize, u32) {
+        (self.d, self.dates.iter().rev().fold(0, |flags, &date| 2 * flags + date as u32))
+    }
+}
+
 /// The version of the interface that this file is for; `version()` gives that of the archive.
-pub const VERSION: u32 = 2;
+pub const VERSION: u32 = 3;
 
 /// The limits: fields of a rule, rules of a list, numbers of the longest list and of the longest table.
 pub const MAX_FIELDS: usize = 8;
@@ -31,7 +51,7 @@ impl Refusal {
             1 => "d is not 1 to 8",
             2 => "the list's length is no multiple of 2d",
             3 => "more than 1,024 rules",
-            4 => "some low is above its high",
+            4 => "some low is above its high, or equal to it in a date",
             5 => "the table's length is not that of n rules of d fields",
             6 => "broken table: numbers of it that the call reads do not hold together",
             7 => "the partition number is not below the number of partitions",
@@ -55,7 +75,7 @@ impl std::fmt::Display for Refusal {
 impl std::error::Error for Refusal {}
 
 /// What a lookup finds: the rule, or none, the number of range tests, and whether the rule is at an edge, which means that in
-/// one of the d fields or more the header's number is the low or the high of its range. None has no edge.
+/// one of the d fields or more the header's number is the first or the last of its range. None has no edge.
 #[derive(Clone, Copy, Debug, PartialEq, Eq)]
 pub struct Looked {
     pub rule: Option<usize>,
@@ -74,17 +94,25 @@ mod c {
     #[link(name = "cuyenalot", kind = "static")]
     extern "C" {
         pub fn cuy_version() -> u32;
-        pub fn cuy_check(d: usize, list: *const u32, list_length: usize, answer: &mut [u64; 4]) -> u32;
+        pub fn cuy_check(d: usize, dates: u32, list: *const u32, list_length: usize, answer: &mut [u64; 4]) -> u32;
         pub fn cuy_plain_scan(
             d: usize,
+            dates: u32,
             list: *const u32,
             list_length: usize,
             header: &[u32; 8],
             answer: &mut [u64; 5],
         ) -> u32;
-        pub fn cuy_independence(d: usize, list: *const u32, list_length: usize, answer: &mut [u64; 6]) -> u32;
+        pub fn cuy_independence(
+            d: usize,
+            dates: u32,
+            list: *const u32,
+            list_length: usize,
+            answer: &mut [u64; 6],
+        ) -> u32;
         pub fn cuy_build(
             d: usize,
+            dates: u32,
             list: *const u32,
             list_length: usize,
             table: *mut u16,
@@ -93,6 +121,7 @@ mod c {
         ) -> u32;
         pub fn cuy_lookup(
             d: usize,
+            dates: u32,
             list: *const u32,
             list_length: usize,
             table: *const u16,
@@ -102,6 +131,7 @@ mod c {
         ) -> u32;
         pub fn cuy_audit(
             d: usize,
+            dates: u32,
             list: *const u32,
             list_length: usize,
             table: *const u16,
@@ -110,6 +140,7 @@ mod c {
         ) -> u32;
         pub fn cuy_report(
             d: usize,
+            dates: u32,
             list: *const u32,
             list_length: usize,
             table: *const u16,
@@ -141,59 +172,69 @@ pub fn version() -> u32 {
 }
 
 /// Checks a list: its number of rules.
-pub fn check(d: usize, list: &[u32]) -> Result<usize, Refusal> {
+pub fn check(shape: Shape, list: &[u32]) -> Result<usize, Refusal> {
+    let (d, dates) = shape.numbers();
     let mut answer = [0; 4];
-    let number = unsafe { c::cuy_check(d, list.as_ptr(), list.len(), &mut answer) };
+    let number = unsafe { c::cuy_check(d, dates, list.as_ptr(), list.len(), &mut answer) };
     told(number, &answer)?;
     Ok(answer[3] as usize)
 }
 
 /// Scans a list plainly: the first match, or none.
-pub fn plain_scan(d: usize, list: &[u32], header: &Header) -> Result<Option<usize>, Refusal> {
+pub fn plain_scan(shape: Shape, list: &[u32], header: &Header) -> Result<Option<usize>, Refusal> {
+    let (d, dates) = shape.numbers();
     let mut answer = [0; 5];
-    let number = unsafe { c::cuy_plain_scan(d, list.as_ptr(), list.len(), header, &mut answer) };
+    let number = unsafe { c::cuy_plain_scan(d, dates, list.as_ptr(), list.len(), header, &mut answer) };
     told(number, &answer)?;
     Ok(match_in(&answer))
 }
 
 /// Tests a list for order independence: none, or the least pair of rules that some header fits.
-pub fn independence(d: usize, list: &[u32]) -> Result<Option<(usize, usize)>, Refusal> {
+pub fn independence(shape: Shape, list: &[u32]) -> Result<Option<(usize, usize)>, Refusal> {
+    let (d, dates) = shape.numbers();
     let mut answer = [0; 6];
-    let number = unsafe { c::cuy_independence(d, list.as_ptr(), list.len(), &mut answer) };
+    let number = unsafe { c::cuy_independence(d, dates, list.as_ptr(), list.len(), &mut answer) };
     told(number, &answer)?;
     Ok(if answer[3] == 1 { None } else { Some((answer[4] as usize, answer[5] as usize)) })
 }
 
 /// Builds the table of a list: its number of partitions. A refusal leaves the table as lent.
-pub fn build(d: usize, list: &[u32], table: &mut [u16]) -> Result<usize, Refusal> {
+pub fn build(shape: Shape, list: &[u32], table: &mut [u16]) -> Result<usize, Refusal> {
+    let (d, dates) = shape.numbers();
     let mut answer = [0; 4];
-    let number = unsafe { c::cuy_build(d, list.as_ptr(), list.len(), table.as_mut_ptr(), table.len(), &mut answer) };
+    let number =
+        unsafe { c::cuy_build(d, dates, list.as_ptr(), list.len(), table.as_mut_ptr(), table.len(), &mut answer) };
     told(number, &answer)?;
     Ok(answer[3] as usize)
 }
 
-/// Looks a header up in a table: the rule, or none, the range tests, and whether the rule is at an edge.
-pub fn lookup(d: usize, list: &[u32], table: &[u16], header: &Header) -> Result<Looked, Refusal> {
+/// Looks a header up in a table: the rule, or none, the range tests, and whether the rule is at an edge. In a table that was
+/// built with other flags a rule that is given still fits, by the flags of this call, and need not be the first match.
+pub fn lookup(shape: Shape, list: &[u32], table: &[u16], header: &Header) -> Result<Looked, Refusal> {
+    let (d, dates) = shape.numbers();
     let mut answer = [0; 7];
     let number =
-        unsafe { c::cuy_lookup(d, list.as_ptr(), list.len(), table.as_ptr(), table.len(), header, &mut answer) };
+        unsafe { c::cuy_lookup(d, dates, list.as_ptr(), list.len(), table.as_ptr(), table.len(), header, &mut answer) };
     told(number, &answer)?;
     Ok(Looked { rule: match_in(&answer), tests: answer[5] as usize, edge: answer[6] == 1 })
 }
 
-/// Audits a table: whether it is, number for number, what a build writes for this list.
-pub fn audit(d: usize, list: &[u32], table: &[u16]) -> Result<bool, Refusal> {
+/// Audits a table: whether it is, number for number, what a build writes for this list and this shape.
+pub fn audit(shape: Shape, list: &[u32], table: &[u16]) -> Result<bool, Refusal> {
+    let (d, dates) = shape.numbers();
     let mut answer = [0; 4];
-    let number = unsafe { c::cuy_audit(d, list.as_ptr(), list.len(), table.as_ptr(), table.len(), &mut answer) };
+    let number = unsafe { c::cuy_audit(d, dates, list.as_ptr(), list.len(), table.as_ptr(), table.len(), &mut answer) };
     told(number, &answer)?;
     Ok(answer[3] == 1)
 }
 
-/// Reports on a partition of a table.
-pub fn report(d: usize, list: &[u32], table: &[u16], partition: usize) -> Result<Part, Refusal> {
+/// Reports on a partition of a table; which fields are dates alters nothing.
+pub fn report(shape: Shape, list: &[u32], table: &[u16], partition: usize) -> Result<Part, Refusal> {
+    let (d, dates) = shape.numbers();
     let mut answer = [0; 5];
-    let number =
-        unsafe { c::cuy_report(d, list.as_ptr(), list.len(), table.as_ptr(), table.len(), partition, &mut answer) };
+    let number = unsafe {
+        c::cuy_report(d, dates, list.as_ptr(), list.len(), table.as_ptr(), table.len(), partition, &mut answer)
+    };
     told(number, &answer)?;
     Ok(Part { size: answer[3] as usize, least: answer[4] as usize })
 }

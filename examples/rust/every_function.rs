@@ -1,10 +1,12 @@
 //! Calls every function of the wrapper on 01's worked cases and on inputs that it refuses, and prints each answer: what is
-//! answered, or refused, the number and the place. Prints what `examples/c/every_function.c` prints.
+//! answered, or refused, the number and the place. Prints what `examples/c/every_function.c` prints. No field is a date here;
+//! `due_date.rs` has dates.
 mod cuyenalot;
 
 use cuyenalot::*;
 
 const FIELDS: usize = 2;
+const SHAPE: Shape = Shape::of(FIELDS);
 const NUMBERS: usize = 20;
 const TABLE: usize = table_length(5, FIELDS);
 
@@ -57,9 +59,9 @@ fn limits() {
     let list = vec![0; MAX_LIST + 2 * MAX_FIELDS];
     let mut table = vec![0; MAX_TABLE];
     println!("limits: {} {} {} {}", MAX_FIELDS, MAX_RULES, MAX_LIST, MAX_TABLE);
-    say("check the longest list", check(MAX_FIELDS, &list[..MAX_LIST]).map(|n| [n]));
-    say("check one rule more", check(MAX_FIELDS, &list).map(|n| [n]));
-    say("build the longest list", build(MAX_FIELDS, &list[..MAX_LIST], &mut table).map(|b| [b]));
+    say("check the longest list", check(Shape::of(MAX_FIELDS), &list[..MAX_LIST]).map(|n| [n]));
+    say("check one rule more", check(Shape::of(MAX_FIELDS), &list).map(|n| [n]));
+    say("build the longest list", build(Shape::of(MAX_FIELDS), &list[..MAX_LIST], &mut table).map(|b| [b]));
     assert_eq!(table_length(usize::MAX, 8), usize::MAX);
 }
 
@@ -70,47 +72,47 @@ fn main() {
         println!("{}: {}", number, Refusal { number, at: 0, then: 0 }.name());
     }
 
-    say("check the bench list", check(FIELDS, &BENCH).map(|n| [n]));
-    say("check 9 fields", check(9, &BENCH).map(|n| [n]));
-    say("check one number short", check(FIELDS, &BENCH[..NUMBERS - 1]).map(|n| [n]));
-    say("check 1025 rules", check(1, &MANY).map(|n| [n]));
-    say("check 9-3 in rule 3, field 1", check(FIELDS, &CROSSED).map(|n| [n]));
+    say("check the bench list", check(SHAPE, &BENCH).map(|n| [n]));
+    say("check 9 fields", check(Shape::of(9), &BENCH).map(|n| [n]));
+    say("check one number short", check(SHAPE, &BENCH[..NUMBERS - 1]).map(|n| [n]));
+    say("check 1025 rules", check(Shape::of(1), &MANY).map(|n| [n]));
+    say("check 9-3 in rule 3, field 1", check(SHAPE, &CROSSED).map(|n| [n]));
 
-    say("scan for 7, 150", plain_scan(FIELDS, &BENCH, &B4).map(matched));
-    say("scan for 10, 0", plain_scan(FIELDS, &BENCH, &B7).map(matched));
-    say("scan past 9-3", plain_scan(FIELDS, &CROSSED, &B4).map(matched));
+    say("scan for 7, 150", plain_scan(SHAPE, &BENCH, &B4).map(matched));
+    say("scan for 10, 0", plain_scan(SHAPE, &BENCH, &B7).map(matched));
+    say("scan past 9-3", plain_scan(SHAPE, &CROSSED, &B4).map(matched));
 
-    say("independence of the bench list", independence(FIELDS, &BENCH).map(paired));
-    say("independence of its first three rules", independence(FIELDS, &BENCH[..12]).map(paired));
-    say("independence with 9-3", independence(FIELDS, &CROSSED).map(paired));
+    say("independence of the bench list", independence(SHAPE, &BENCH).map(paired));
+    say("independence of its first three rules", independence(SHAPE, &BENCH[..12]).map(paired));
+    say("independence with 9-3", independence(SHAPE, &CROSSED).map(paired));
 
     let mut table = [65535; TABLE];
-    say("build with 9-3", build(FIELDS, &CROSSED, &mut table).map(|b| [b]));
-    say("build one number short", build(FIELDS, &BENCH, &mut table[..TABLE - 1]).map(|b| [b]));
+    say("build with 9-3", build(SHAPE, &CROSSED, &mut table).map(|b| [b]));
+    say("build one number short", build(SHAPE, &BENCH, &mut table[..TABLE - 1]).map(|b| [b]));
     println!("table:{}", listed(&table));
-    say("build", build(FIELDS, &BENCH, &mut table).map(|b| [b]));
+    say("build", build(SHAPE, &BENCH, &mut table).map(|b| [b]));
     println!("table:{}", listed(&table));
     let mut small = [65535; 4];
-    say("build of no rules", build(1, &[], &mut small).map(|b| [b]));
+    say("build of no rules", build(Shape::of(1), &[], &mut small).map(|b| [b]));
     println!("table:{}", listed(&small));
 
-    say("look up 7, 150", lookup(FIELDS, &BENCH, &table, &B4).map(looked));
-    say("look up 10, 0", lookup(FIELDS, &BENCH, &table, &B7).map(looked));
-    say("look up 5, 5", lookup(FIELDS, &BENCH, &table, &PLAIN).map(looked));
-    say("look up one number short", lookup(FIELDS, &BENCH, &table[..TABLE - 1], &B4).map(looked));
+    say("look up 7, 150", lookup(SHAPE, &BENCH, &table, &B4).map(looked));
+    say("look up 10, 0", lookup(SHAPE, &BENCH, &table, &B7).map(looked));
+    say("look up 5, 5", lookup(SHAPE, &BENCH, &table, &PLAIN).map(looked));
+    say("look up one number short", lookup(SHAPE, &BENCH, &table[..TABLE - 1], &B4).map(looked));
 
-    say("audit", audit(FIELDS, &BENCH, &table).map(|same| [same as usize]));
-    say("audit with 9-3", audit(FIELDS, &CROSSED, &table).map(|same| [same as usize]));
+    say("audit", audit(SHAPE, &BENCH, &table).map(|same| [same as usize]));
+    say("audit with 9-3", audit(SHAPE, &CROSSED, &table).map(|same| [same as usize]));
 
-    say("report on partition 0", report(FIELDS, &BENCH, &table, 0).map(|part| [part.size, part.least]));
-    say("report on partition 1", report(FIELDS, &BENCH, &table, 1).map(|part| [part.size, part.least]));
-    say("report on partition 3", report(FIELDS, &BENCH, &table, 3).map(|part| [part.size, part.least]));
+    say("report on partition 0", report(SHAPE, &BENCH, &table, 0).map(|part| [part.size, part.least]));
+    say("report on partition 1", report(SHAPE, &BENCH, &table, 1).map(|part| [part.size, part.least]));
+    say("report on partition 3", report(SHAPE, &BENCH, &table, 3).map(|part| [part.size, part.least]));
 
     table[TABLE - 1] += 1;
-    say("audit with another last number", audit(FIELDS, &BENCH, &table).map(|same| [same as usize]));
-    say("look up with another last number", lookup(FIELDS, &BENCH, &table, &B4).map(looked));
+    say("audit with another last number", audit(SHAPE, &BENCH, &table).map(|same| [same as usize]));
+    say("look up with another last number", lookup(SHAPE, &BENCH, &table, &B4).map(looked));
     table[3] = 5;
-    say("report with a rule too many", report(FIELDS, &BENCH, &table, 0).map(|part| [part.size, part.least]));
+    say("report with a rule too many", report(SHAPE, &BENCH, &table, 0).map(|part| [part.size, part.least]));
 
     say("range of (16, 2), width 5", prefix_to_range(5, 16, 2).map(|(low, high)| [low as usize, high as usize]));
     say("range of (0, 0), width 32", prefix_to_range(32, 0, 0).map(|(low, high)| [low as usize, high as usize]));

@@ -89,8 +89,37 @@ odd_inputs() {
     compare_lines 'a line of 500,000 words' "$input"
     { printf 'check 1 0'; head -c 3000000 /dev/zero | tr '\0' ' '; printf '\ncheck 1 0\n'; } >"$input"
     compare_lines '3,000,000 blanks' "$input"
+    { printf 'check 1:'; head -c 3000000 /dev/zero | tr '\0' 1; printf ' 0\ncheck 1 2 5 5\n'; } >"$input"
+    compare_lines '3,000,000 flags' "$input"
     "$second" edges lists >"$input"
     compare_lines 'lists, edges, in pieces' "$input" in_pieces
+}
+
+# 02, W8: lines with dates, each with the answer that it must have. The second program has no say here.
+worked_lines() {
+    local line want got
+    while IFS= read -r line && IFS= read -r want; do
+        got=$(printf '%s\n' "$line" | timeout "$limit" "$calls" 2>/dev/null)
+        if [ "$got" = "$want" ]; then
+            pass 1
+        else
+            printf "calls: echo '%s' | tests/run --line: not as it was worked out\n  worked: %s\n  calls:  %s\n" "$line" "$want" "$got"
+            fail 1
+        fi
+    done <<'END'
+build 1:10000000 4 1 5 5 9 12 0 0 0 0 0 0 0 0 0 0 0 0
+ok 1 table 2 1 1 0 1 0 2 0 0 1 1 2
+check 1:10000000 2 5 5
+refused 4 0 0
+check 1:01111111 2 5 5
+ok 1
+independent 1:10000000 4 1 5 5 9
+ok yes
+side 1:10000000 0 5 6 5
+ok both
+side 1:10000000 0 0 0 0
+ok above
+END
 }
 
 # Writes lines by the second program and compares the answers.
@@ -113,7 +142,7 @@ compare_kind() { # KIND
     *) compare_written "$1, edges" edges "$1" ;;
     esac
     compare_written "$1, seed $seed" cases "$seed" "${drawn_lines[$1]}" "$1"
-    if [ "$1" = protocol ]; then odd_inputs; fi
+    if [ "$1" = protocol ]; then odd_inputs; worked_lines; fi
     echo "calls: $1 done, ${drawn_lines[$1]} lines drawn ($((SECONDS - began)) s)"
 }
 

@@ -60,8 +60,8 @@ status_of_calls() {
     ends_with 0 'help was asked for' calls --help
     local word missing=''
     for word in check scan build lookup audit report independent side p2r r2p; do grep -q "^$word " "$scratch/got" || missing="$missing $word"; done
-    [ -z "$missing" ]
-    judge $? "./run calls --help says the words (missing:$missing)"
+    [ -z "$missing" ] && grep -q 'D:FFFFFFFF' "$scratch/got"
+    judge $? "./run calls --help says the words, and how D has flags (missing:$missing)"
     ends_with 2 'it takes no other word' calls lines.txt
     printf 'p2r 16 2 5\n' | timeout "$limit" "$root/run" calls >/dev/full 2>/dev/null
     [ "${PIPESTATUS[1]}" = 1 ]

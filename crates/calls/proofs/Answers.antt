@@ -2,6 +2,7 @@
 --     unnamed                                   no blank has ended the name
 --     ill-read, crowded, lost-name, called      a line whose name has ended
 --     unnamed-put, named-bad, named-call        what is put, and what is left of the numbers
+--     flagged-bad, flagged-call                 the same by the flags of D
 --     answer-long                               of which there are as many
 --     call-over                                 more numbers than any call takes
 -- Assumes nothing.
@@ -24,12 +25,14 @@ use Rattle.words.specs.declared.table_words.TableWord.the-variants.{Build, Look
 use Rattle.phrases.proofs.Few.{few-more}
 use Rattle.words.proofs.Parts.{list-over, tables-over}
 use Rattle.words.proofs.Words.{exact-bad, r2p-over, left-long}
-use Rattle.calls.specs.declared.line.Line.{Line}
+use Rattle.hearing.specs.declared.line.Line.{Line}
 use Rattle.calls.specs.declared.word.Word.{Word}
 use Rattle.calls.specs.declared.word.Word.the-variants.{Check, Scan, Independent, Table, Side, P2r, R2p, Unknown}
-use Rattle.calls.specs.Lines.{Heard, heard}
-use Rattle.calls.specs.Names.{wordOf}
-use Rattle.calls.specs.Answers.{wordSaid, wordLeft, isCall, namedLeft, answerSaid, answerLeft}
+use Rattle.hearing.specs.declared.flags.Flags.{Flags}
+use Rattle.hearing.specs.Flags.{datesOf, flagsEnded}
+use Rattle.hearing.specs.Lines.{Heard, heard}
+use Rattle.calls.specs.Names.{wordOf, flagsFit}
+use Rattle.calls.specs.Answers.{wordSaid, wordLeft, flaggedSaid, flaggedLeft, isCall, namedLeft, answerSaid, answerLeft}
 
 -- ---- a line that is no call, of which the answer is bad
 pub unnamed : (line : Line) (name numbers : List ℕ) → line .named ≡ false → answerSaid (heard line name numbers) ≡ badSaid
@@ -79,14 +82,28 @@ module _ {s : Heard} {row : Row} {run : List ℕ} (so : Ended s row run) {out : 
   unfolding answerSaid answerLeft
   named-bad bad put = (rw (so .named, ← so .last, ← so .kept, bad) (few-more (omega arith) put), rw (so .named, ← so .last, ← so .kept, bad) refl)
 
-  pub named-call : {word : Word} {left : List ℕ} → isCall (s .line .length) (s .name) row run ≡ true → word ≡ wordOf (take (s .line .length) (s .name))
-      → PutFew (answerMost - 1) out at (wordSaid word (take (row .cells) run)) after end → left ≡ wordLeft word (take (row .cells) run)
+  pub named-call : {word : Word} {flags : Flags} {left : List ℕ} → isCall (s .line .length) (s .name) row run ≡ true
+      → word ≡ wordOf (take (s .line .length) (s .name)) → flags ≡ flagsEnded (s .line .flags)
+      → PutFew (answerMost - 1) out at (flaggedSaid word flags (take (row .cells) run)) after end → left ≡ flaggedLeft word flags (take (row .cells) run)
       → Answered s out at (left ++ drop (row .cells) run) after end
   unfolding answerSaid answerLeft
-  named-call stands asks put left-is = (
-    rw (so .named, ← so .last, ← so .kept, stands, ← asks) put,
-    rw (so .named, ← so .last, ← so .kept, stands, ← asks) (ap (λ l. l ++ drop (row .cells) run) left-is),
+  named-call stands asks ends put left-is = (
+    rw (so .named, ← so .last, ← so .kept, stands, ← asks, ← ends) put,
+    rw (so .named, ← so .last, ← so .kept, stands, ← asks, ← ends) (ap (λ l. l ++ drop (row .cells) run) left-is),
   )
+
+-- ---- with the flags of D: t is a callee's answer whether the call may have them
+module _ (word : Word) (flags : Flags) (ns : List ℕ) {t : Bool} (is-t : t ≡ flagsFit word flags) {out : List ℕ} {at : ℕ} {after : List ℕ} {end : ℕ} where
+  pub flagged-bad : t ≡ false → PutFew 70 out at badSaid after end
+      → PutFew (answerMost - 1) out at (flaggedSaid word flags ns) after end × (ns ≡ flaggedLeft word flags ns)
+  unfolding flaggedSaid flaggedLeft
+  flagged-bad e put = (rw (← is-t, e) (few-more (omega arith) put), rw (← is-t, e) refl)
+
+  pub flagged-call : t ≡ true → {dates : ℕ} {left : List ℕ} → dates ≡ datesOf flags
+      → PutFew (answerMost - 1) out at (wordSaid word dates ns) after end → left ≡ wordLeft word ns
+      → PutFew (answerMost - 1) out at (flaggedSaid word flags ns) after end × (left ≡ flaggedLeft word flags ns)
+  unfolding flaggedSaid flaggedLeft
+  flagged-call e is put left-is = (rw (← is-t, e, ← is) put, rw (← is-t, e) left-is)
 
 -- ---- the run of the numbers keeps its length
 word-long : (word : Word) (ns : List ℕ) → length (wordLeft word ns) ≡ length ns
@@ -99,15 +116,23 @@ word-long P2r ns = refl
 word-long R2p ns = left-long ns
 word-long Unknown ns = refl
 
-named-long : (k : ℕ) (name : List ℕ) (row : Row) (run : List ℕ) → length (namedLeft k name row run) ≡ length run
-named-long k name row run = go (isCall k name row run)
+flagged-long : (word : Word) (flags : Flags) (ns : List ℕ) → length (flaggedLeft word flags ns) ≡ length ns
+unfolding flaggedLeft
+flagged-long word flags ns = go (flagsFit word flags)
+  where
+    go : (t : Bool) → length (pick t (wordLeft word ns) ns) ≡ length ns
+    go true = word-long word ns
+    go false = refl
+
+named-long : (k : ℕ) (name : List ℕ) (flags : Flags) (row : Row) (run : List ℕ) → length (namedLeft k name flags row run) ≡ length run
+named-long k name flags row run = go (isCall k name row run)
   where
     front : List ℕ
-    front = wordLeft (wordOf (take k name)) (take (row .cells) run)
+    front = flaggedLeft (wordOf (take k name)) flags (take (row .cells) run)
 
     go : (t : Bool) → length (pick t (front ++ drop (row .cells) run) run) ≡ length run
     go true =
-        let same = word-long (wordOf (take k name)) (take (row .cells) run) in
+        let same = flagged-long (wordOf (take k name)) flags (take (row .cells) run) in
         omega (arith, length-append front (drop (row .cells) run), same, length-take (row .cells) run, length-drop (row .cells) run)
     go false = refl
 
@@ -118,8 +143,8 @@ answer-long s = go (s .line .named)
     run : List ℕ
     run = keptAt (s .line .row) 0 (s .numbers)
 
-    go : (t : Bool) → length (pick t (namedLeft (s .line .length) (s .name) (rowNext (s .line .row)) run) (s .numbers)) ≡ length (s .numbers)
-    go true = named-long (s .line .length) (s .name) (rowNext (s .line .row)) run ∙ kept-long (s .line .row) 0 (s .numbers)
+    go : (t : Bool) → length (pick t (namedLeft (s .line .length) (s .name) (flagsEnded (s .line .flags)) (rowNext (s .line .row)) run) (s .numbers)) ≡ length (s .numbers)
+    go true = named-long (s .line .length) (s .name) (flagsEnded (s .line .flags)) (rowNext (s .line .row)) run ∙ kept-long (s .line .row) 0 (s .numbers)
     go false = refl
 
 -- ---- more numbers than any call takes
@@ -129,13 +154,21 @@ following-few Lookup = omega arith
 following-few Audit = omega arith
 following-few Report = omega arith
 
-pub call-over : (word : Word) (ns : List ℕ) → lineRoom < length ns → wordSaid word ns ≡ badSaid
+word-over : (word : Word) (dates : ℕ) (ns : List ℕ) → lineRoom < length ns → wordSaid word dates ns ≡ badSaid
 unfolding sideSaid p2rSaid
-call-over Check ns over = rw (list-over ns 0 (omega arith))
-call-over Scan ns over = rw (list-over ns 8 (omega arith))
-call-over Independent ns over = rw (list-over ns 0 (omega arith))
-call-over (Table word) ns over = let few = following-few word in rw (tables-over ns (following word) (omega arith))
-call-over Side ns over = exact-bad 5 ns _ (λ e. omega arith)
-call-over P2r ns over = exact-bad 3 ns _ (λ e. omega arith)
-call-over R2p ns over = rw (r2p-over ns (omega arith))
-call-over Unknown ns over = refl
+word-over Check dates ns over = rw (list-over ns 0 (omega arith))
+word-over Scan dates ns over = rw (list-over ns 8 (omega arith))
+word-over Independent dates ns over = rw (list-over ns 0 (omega arith))
+word-over (Table word) dates ns over = let few = following-few word in rw (tables-over ns (following word) (omega arith))
+word-over Side dates ns over = exact-bad 5 ns _ (λ e. omega arith)
+word-over P2r dates ns over = exact-bad 3 ns _ (λ e. omega arith)
+word-over R2p dates ns over = rw (r2p-over ns (omega arith))
+word-over Unknown dates ns over = refl
+
+pub call-over : (word : Word) (flags : Flags) (ns : List ℕ) → lineRoom < length ns → flaggedSaid word flags ns ≡ badSaid
+unfolding flaggedSaid
+call-over word flags ns over = go (flagsFit word flags)
+  where
+    go : (t : Bool) → pick t (wordSaid word (datesOf flags) ns) badSaid ≡ badSaid
+    go true = word-over word (datesOf flags) ns over
+    go false = refl

@@ -12,16 +12,12 @@ use Rattle.text.specs.Cells.{fed}
 use Rattle.text.specs.Puts.{Put}
 use Rattle.text.proofs.Determined.{place-one, bytes-one}
 use Rattle.calls.specs.declared.reply.Place.{Place}
-use Rattle.calls.specs.Lines.{Heard, heard}
+use Rattle.hearing.specs.Lines.{Heard, heard}
 use Rattle.calls.specs.Replies.{servedByte, saidTo, ServedLines}
-use Rattle.calls.proofs.line.line_start.Kinds as line-start-kinds
-use Rattle.calls.proofs.line.line_start.Reads as line-start
-use Rattle.calls.proofs.line.hear.Kinds as hear-kinds
-use Rattle.calls.proofs.line.hear.Reads as hear
-use Rattle.calls.proofs.line.line_in.Kinds as line-in-kinds
-use Rattle.calls.proofs.line.line_in.Reads as line-in
 use Rattle.calls.proofs.word.word_of.Kinds as word-of-kinds
 use Rattle.calls.proofs.word.word_of.Reads as word-of
+use Rattle.calls.proofs.word.flags_fit.Kinds as flags-fit-kinds
+use Rattle.calls.proofs.word.flags_fit.Reads as flags-fit
 use Rattle.calls.proofs.answer.answer.Kinds as answer-kinds
 use Rattle.calls.proofs.answer.answer.Reads as answer
 use Rattle.calls.proofs.reply.serve_lines.Kinds as serve-lines-kinds
@@ -29,26 +25,12 @@ use Rattle.calls.proofs.reply.serve_lines.Reads as serve-lines
 use Rattle.calls.proofs.reply.put_last.Kinds as put-last-kinds
 use Rattle.calls.proofs.reply.put_last.Reads as put-last
 
--- ---- line
-pub line-start-one : OneAnswer 0 line-start-kinds.ps line-start-kinds.r line-start.Learnt
-line-start-one κs a x y e g p q = p ∙ sym q
-
--- the line, the run for its name and the run for its numbers
-pub hear-one : OneAnswer 3 hear-kinds.ps hear-kinds.r hear.Learnt
-hear-one κs a x y e g p q = ap (λ s. s .line) (p ∙ sym q)
-
-pub hear-name-one : OneRun 3 hear-kinds.ps hear-kinds.r hear.Learnt (λ κs e. now (e .1 .1 .0))
-hear-name-one κs a x y e g p q = ap (λ s. s .name) (p ∙ sym q)
-
-pub hear-numbers-one : OneRun 3 hear-kinds.ps hear-kinds.r hear.Learnt (λ κs e. now (e .1 .1 .1 .0))
-hear-numbers-one κs a x y e g p q = ap (λ s. s .numbers) (p ∙ sym q)
-
-pub line-in-one : OneAnswer 1 line-in-kinds.ps line-in-kinds.r line-in.Learnt
-line-in-one κs a x y e g p q = p ∙ sym q
-
 -- ---- word
 pub word-of-one : OneAnswer 1 word-of-kinds.ps word-of-kinds.r word-of.Learnt
 word-of-one κs a x y e g p q = p ∙ sym q
+
+pub flags-fit-one : OneAnswer 0 flags-fit-kinds.ps flags-fit-kinds.r flags-fit.Learnt
+flags-fit-one κs a x y e g p q = p ∙ sym q
 
 -- ---- answer
 pub answer-one : OneAnswer 3 answer-kinds.ps answer-kinds.r answer.Learnt

@@ -1,7 +1,8 @@
--- A line's bytes, heard one by one (`specs/Lines.antt`), are answered as its words are (`answerTo` of `specs/Answers.antt`). The
--- bytes of the first word go to the name's run until a blank ends it. From then on they are the bytes of a line of numbers parted
--- by blanks, which come to its cells (`row-is` of the crate text). A name that its run cuts short is too long for any call, and
--- numbers that have no place in theirs are too many.
+-- A line's bytes, heard one by one (`specs/Lines.antt` of the crate hearing), are answered as its words are (`answerTo` of
+-- `specs/Answers.antt`). The bytes of the first word go to the name's run until a blank ends it. From then on they are the bytes of a line
+-- of numbers parted by blanks, which come to its cells (`row-is` of the crate text), and of the flags of the first (`numbers-heard` and
+-- `flags-are` of the crate hearing). A name that its run cuts short is too long for any call, and numbers that have no place in theirs
+-- are too many.
 --     name-heard          the answer to a line by its words, the first going on in the name's run
 --     words-answered      which is the answer to its words, in runs as the program has them
 --     line-is             both together
@@ -18,51 +19,53 @@ use lib.Seq.{sets, sets-eq, length-sets, take-at, length-take-le}
 use Rattle.ranges.specs.Numbers.{pick}
 use Rattle.text.specs.Cells.{fed}
 use Rattle.text.specs.Puts.{Put, placeAfter}
-use Rattle.text.specs.Rows.{fresh, inFront, cellsIn, allNumbers, valuesOf, Reading, begin, ended, within, readByte, readCells}
+use Rattle.text.specs.Rows.{fresh, inFront, cellsIn, allNumbers, valuesOf, Reading, begin, ended, readByte, readCells}
 use Rattle.text.proofs.Puts.{put-then}
 use Rattle.text.proofs.Rows.{row-is}
 use Rattle.text.proofs.Counted.{cells-good, cells-count, cells-run, cells-long, many-either, values-length}
 use Rattle.words.specs.Limits.{lineRoom, nameRoom}
-use Rattle.calls.specs.Lines.{Heard, heard, unheard, lineOf, numberEnds, numberTakes, nameEnds, nameTakes, heardByte}
+use Rattle.hearing.specs.Flags.{flagsIn, numberIn}
+use Rattle.hearing.specs.Lines.{heard, unheard, lineOf, nameEnds, nameTakes, heardByte}
+use Rattle.hearing.specs.declared.flags.Flags.{Flags}
+use Rattle.hearing.specs.declared.flags.Flags.the-variants.{Without}
+use Rattle.hearing.proofs.Dates.{flags-are}
+use Rattle.hearing.proofs.FirstNumber.{numbered, numbers-heard, firstOf, onFirst, stripped, stripped-cells}
 use Rattle.calls.specs.Names.{wordOf}
 use Rattle.words.specs.Words.{badSaid}
-use Rattle.calls.specs.Answers.{wordSaid, wordsSaid, answerTo, namedSaid, answerSaid}
+use Rattle.calls.specs.Answers.{flaggedSaid, wordsSaid, answerTo, namedSaid, answerSaid}
 use Rattle.words.proofs.Longest.{table-most}
 use Rattle.calls.proofs.Names.{name-over}
 use Rattle.calls.proofs.Answers.{unnamed, ill-read, crowded, called, call-over}
 
 -- ---- the numbers
--- a line whose name has ended at place k of its run, with its numbers as far as they have been read
-abbrev numbered : ℕ → List ℕ → Reading → Heard
-numbered k name r = heard (lineOf true k (r .row)) name (r .run)
+-- the answer by what the flags of the first and the numbers' cells come to
+abbrev cellsSaid : ℕ → List ℕ → Flags → Reading → List ℕ
+cellsSaid k name flags e = namedSaid k name flags (e .row) (e .run)
 
-number-reads : (k : ℕ) (name : List ℕ) (r : Reading) (b : ℕ) → heardByte (numbered k name r) b ≡ numbered k name (readByte 32 0 r b)
-unfolding heardByte readByte
-number-reads k name r b = go (eqb b 32)
-  where
-    go : (t : Bool) → pick t (numberEnds (numbered k name r)) (numberTakes (numbered k name r) b) ≡ numbered k name (pick t (ended 0 r) (within r b))
-    go true = refl
-    go false = refl
+-- a line's first number without its flags, and the others
+abbrev numberCells : List (List ℕ) → List (List ℕ)
+numberCells cs = onFirst numberIn cs
 
-numbers-read : (l : List ℕ) (k : ℕ) (name : List ℕ) (r : Reading) → fed heardByte (numbered k name r) l ≡ numbered k name (fed (readByte 32 0) r l)
-numbers-read [] k name r = refl
-numbers-read (b ∷ l) k name r = ap (λ s. fed heardByte s l) (number-reads k name r b) ∙ numbers-read l k name (readByte 32 0 r b)
-
--- the answer by what the numbers' cells come to
-abbrev cellsSaid : ℕ → List ℕ → Reading → List ℕ
-cellsSaid k name e = namedSaid k name (e .row) (e .run)
+-- the answer by a line's cells, where its name has ended at place k of its run
+abbrev numbersSaid : ℕ → List ℕ → List ℕ → List (List ℕ) → List ℕ
+numbersSaid k name numbers cs = cellsSaid k name (flagsIn (firstOf cs)) (readCells 0 (begin numbers) (numberCells cs))
 
 numbers-said : (l : List ℕ) (k : ℕ) (name numbers : List ℕ)
-    → answerSaid (fed heardByte (numbered k name (begin numbers)) l) ≡ cellsSaid k name (readCells 0 (begin numbers) (cellsIn 32 l))
+    → answerSaid (fed heardByte (numbered k name Without (begin numbers)) l) ≡ numbersSaid k name numbers (cellsIn 32 l)
 unfolding answerSaid
-numbers-said l k name numbers = ap answerSaid (numbers-read l k name (begin numbers)) ∙ ap (cellsSaid k name) (row-is 32 0 numbers l)
+numbers-said l k name numbers =
+    let first = firstOf (cellsIn 32 l) in
+    ap answerSaid (numbers-heard k name l (begin numbers) refl)
+    ∙ ap (λ flags. cellsSaid k name flags (ended 0 (fed (readByte 32 0) (begin numbers) (stripped l)))) (flags-are first)
+    ∙ ap (cellsSaid k name (flagsIn first)) (row-is 32 0 numbers (stripped l))
+    ∙ ap (λ cs. cellsSaid k name (flagsIn first) (readCells 0 (begin numbers) cs)) (stripped-cells l)
 
 -- ---- the name
 -- the answer by the words, where the first goes on from place k of the name's run
 abbrev wordsOn : ℕ → List ℕ → List ℕ → List (List ℕ) → List ℕ
 wordsOn k name numbers [] = badSaid
 wordsOn k name numbers (w ∷ []) = badSaid
-wordsOn k name numbers (w ∷ c ∷ cs) = cellsSaid (placeAfter (length name) k (length w)) (sets name k w) (readCells 0 (begin numbers) (c ∷ cs))
+wordsOn k name numbers (w ∷ c ∷ cs) = numbersSaid (placeAfter (length name) k (length w)) (sets name k w) numbers (c ∷ cs)
 
 -- a line has a word at least
 cells-some : (by : ℕ) (l : List ℕ) → 0 < length (cellsIn by l)
@@ -76,11 +79,11 @@ cells-some by (b ∷ l) = go (eqb b by) (cellsIn by l)
 
 -- a blank ends the name
 name-ended : (k : ℕ) (name numbers : List ℕ) (cs : List (List ℕ)) → 0 < length cs
-    → cellsSaid k name (readCells 0 (begin numbers) cs) ≡ wordsOn k name numbers ([] ∷ cs)
+    → numbersSaid k name numbers cs ≡ wordsOn k name numbers ([] ∷ cs)
 name-ended k name numbers [] some = absurd (omega arith)
 name-ended k name numbers (c ∷ cs) some =
     let same : k ≡ placeAfter (length name) k 0 = omega arith in
-    ap (λ j. cellsSaid j name (readCells 0 (begin numbers) (c ∷ cs))) same
+    ap (λ j. numbersSaid j name numbers (c ∷ cs)) same
 
 -- the name takes a byte
 put-as : (out : List ℕ) (at : ℕ) (bs : List ℕ) → Put out at bs (sets out at bs) (placeAfter (length out) at (length bs))
@@ -92,18 +95,18 @@ name-taken k b name numbers [] = refl
 name-taken k b name numbers (w ∷ []) = refl
 name-taken k b name numbers (w ∷ c ∷ cs) =
     let put = put-then (put-as name k (b ∷ [])) (put-as (set name k b) (placeAfter (length name) k 1) w) in
-    ap (λ j. cellsSaid j (sets (set name k b) (placeAfter (length name) k 1) w) (readCells 0 (begin numbers) (c ∷ cs))) (put .place)
-    ∙ ap (λ n. cellsSaid (placeAfter (length name) k (suc (length w))) n (readCells 0 (begin numbers) (c ∷ cs))) (put .bytes)
+    ap (λ j. numbersSaid j (sets (set name k b) (placeAfter (length name) k 1) w) numbers (c ∷ cs)) (put .place)
+    ∙ ap (λ n. numbersSaid (placeAfter (length name) k (suc (length w))) n numbers (c ∷ cs)) (put .bytes)
 
 name-heard : (l : List ℕ) (k : ℕ) (name numbers : List ℕ)
-    → answerSaid (fed heardByte (heard (lineOf false k fresh) name numbers) l) ≡ wordsOn k name numbers (cellsIn 32 l)
+    → answerSaid (fed heardByte (heard (lineOf false k Without fresh) name numbers) l) ≡ wordsOn k name numbers (cellsIn 32 l)
 unfolding heardByte
-name-heard [] k name numbers = unnamed (lineOf false k fresh) name numbers refl
+name-heard [] k name numbers = unnamed (lineOf false k Without fresh) name numbers refl
 name-heard (b ∷ l) k name numbers = go (eqb b 32) (name-heard l)
   where
     go : (t : Bool)
-        → ((j : ℕ) (n ns : List ℕ) → answerSaid (fed heardByte (heard (lineOf false j fresh) n ns) l) ≡ wordsOn j n ns (cellsIn 32 l))
-        → answerSaid (fed heardByte (pick t (nameEnds (heard (lineOf false k fresh) name numbers)) (nameTakes (heard (lineOf false k fresh) name numbers) b)) l)
+        → ((j : ℕ) (n ns : List ℕ) → answerSaid (fed heardByte (heard (lineOf false j Without fresh) n ns) l) ≡ wordsOn j n ns (cellsIn 32 l))
+        → answerSaid (fed heardByte (pick t (nameEnds (heard (lineOf false k Without fresh) name numbers)) (nameTakes (heard (lineOf false k Without fresh) name numbers) b)) l)
         ≡ wordsOn k name numbers (pick t ([] ∷ cellsIn 32 l) (inFront b (cellsIn 32 l)))
     go true follow = numbers-said l k name numbers ∙ name-ended k name numbers (cellsIn 32 l) (cells-some 32 l)
     go false follow = follow (placeAfter (length name) k 1) (set name k b) numbers ∙ name-taken k b name numbers (cellsIn 32 l)
@@ -147,23 +150,23 @@ module _ (name numbers : List ℕ) (long : length name ≡ nameRoom) (many : len
       let count = cells-count 0 (begin numbers) cs in
       many-either cs (λ exact. omega (arith, count)) (λ large past parity. omega (arith, count, table-most))
 
-  -- a name and its cells, each way
-  cells-answered : (w : List ℕ) (cs : List (List ℕ))
-      → cellsSaid (placeAfter (length name) 0 (length w)) (sets name 0 w) (come cs) ≡ pick (allNumbers cs) (wordSaid (wordOf w) (valuesOf cs)) badSaid
-  cells-answered w cs = go (allNumbers cs) (leb (length cs) lineRoom) refl refl
+  -- a name, the flags of the first number, and the cells, each way
+  cells-answered : (w : List ℕ) (flags : Flags) (cs : List (List ℕ))
+      → cellsSaid (placeAfter (length name) 0 (length w)) (sets name 0 w) flags (come cs) ≡ pick (allNumbers cs) (flaggedSaid (wordOf w) flags (valuesOf cs)) badSaid
+  cells-answered w flags cs = go (allNumbers cs) (leb (length cs) lineRoom) refl refl
     where
       k : ℕ
       k = placeAfter (length name) 0 (length w)
 
       go : (s t : Bool) → allNumbers cs ≡ s → leb (length cs) lineRoom ≡ t
-          → cellsSaid k (sets name 0 w) (come cs) ≡ pick s (wordSaid (wordOf w) (valuesOf cs)) badSaid
+          → cellsSaid k (sets name 0 w) flags (come cs) ≡ pick s (flaggedSaid (wordOf w) flags (valuesOf cs)) badSaid
       go false t p q = rw (ill-read k (sets name 0 w) (come cs .row) (come cs .run) (cells-good 0 numbers cs ∙ p))
       go true false p q =
           let over = leb-false (length cs) lineRoom q in
           let good = cells-good 0 numbers cs ∙ p in
           let past : length (come cs .run) < come cs .row .cells = omega (arith, come-long cs, come-over cs over) in
           let past' : lineRoom < length (valuesOf cs) = omega (arith, values-length cs) in
-          rw (crowded k (sets name 0 w) (come cs .row) (come cs .run) good past) (sym (call-over (wordOf w) (valuesOf cs) past'))
+          rw (crowded k (sets name 0 w) (come cs .row) (come cs .run) good past) (sym (call-over (wordOf w) flags (valuesOf cs) past'))
       go true true p q =
           let few = leb-true (length cs) lineRoom q in
           let good = cells-good 0 numbers cs ∙ p in
@@ -173,15 +176,15 @@ module _ (name numbers : List ℕ) (long : length name ≡ nameRoom) (many : len
           let run : come cs .run ≡ sets numbers 0 (valuesOf cs) = cells-run cs 0 (begin numbers) p (omega (arith, table-most)) in
           let front : take (length cs) (sets numbers 0 (valuesOf cs)) ≡ valuesOf cs = front-put numbers (valuesOf cs) (length cs) (values-length cs) (omega arith) in
           rw (called k (sets name 0 w) (come cs .row) (come cs .run) good fits within)
-          (ap (λ v. wordSaid v (take (come cs .row .cells) (come cs .run))) (name-asks w)
-          ∙ ap (λ j. wordSaid (wordOf w) (take j (come cs .run))) count
-          ∙ ap (λ r. wordSaid (wordOf w) (take (length cs) r)) run
-          ∙ ap (wordSaid (wordOf w)) front)
+          (ap (λ v. flaggedSaid v flags (take (come cs .row .cells) (come cs .run))) (name-asks w)
+          ∙ ap (λ j. flaggedSaid (wordOf w) flags (take j (come cs .run))) count
+          ∙ ap (λ r. flaggedSaid (wordOf w) flags (take (length cs) r)) run
+          ∙ ap (flaggedSaid (wordOf w) flags) front)
 
   words-answered : (ws : List (List ℕ)) → wordsOn 0 name numbers ws ≡ wordsSaid ws
   words-answered [] = refl
   words-answered (w ∷ []) = refl
-  words-answered (w ∷ c ∷ cs) = cells-answered w (c ∷ cs)
+  words-answered (w ∷ c ∷ cs) = cells-answered w (flagsIn c) (numberIn c ∷ cs)
 
 -- whatever the runs for its name and its numbers hold at first
 pub line-is : (name numbers : List ℕ) → length name ≡ nameRoom → length numbers ≡ lineRoom → (line : List ℕ)

@@ -17,7 +17,8 @@ use Rattle.text.specs.Puts.{placeAfter}
 use Rattle.text.proofs.Feeding.{fed-append}
 use Rattle.text.proofs.Rows.{kept-long}
 use Rattle.words.specs.Limits.{lineRoom, nameRoom}
-use Rattle.calls.specs.Lines.{Heard, heard, unheard, numberEnds, numberTakes, nameEnds, nameTakes, heardByte}
+use Rattle.hearing.specs.Lines.{Heard, heard, unheard, numberEnds, numberTakes, nameEnds, nameTakes, heardByte}
+use Rattle.hearing.proofs.Lines.{number-named}
 use Rattle.calls.specs.Answers.{answerTo, answerSaid, answerLeft}
 use Rattle.calls.specs.Replies.{lineAnew, begunLine}
 use Rattle.calls.proofs.Answers.{answer-long}
@@ -92,7 +93,7 @@ begun-byte s b = go (s .line .named) (eqb b 32)
     go : (t u : Bool) → pick t true (ltb 0 (s .line .length)) ≡ true
         → begunLine (pick t (pick u (numberEnds s) (numberTakes s b)) (pick u (nameEnds s) (nameTakes s b)) .line) ≡ true
     go true true e = refl
-    go true false e = refl
+    go true false e = rw (number-named (s .line) b)
     go false true e = refl
     go false false e =
         let some = ltb-true 0 (s .line .length) e in

@@ -12,7 +12,7 @@ use Rattle.ranges.specs.Numbers.{pick}
 use Rattle.text.specs.Cells.{fed}
 use Rattle.text.specs.Rows.{inFront}
 use Rattle.text.proofs.Feeding.{fed-append}
-use Rattle.calls.specs.Lines.{Heard, heardByte}
+use Rattle.hearing.specs.Lines.{Heard, heardByte}
 use Rattle.calls.specs.Replies.{lineSaid, lineAnew, servedByte, saidByte, saidTo, begunLine, lastSaid}
 use Rattle.calls.specs.Input.{inputLines, answerLine, answersTo, piecesSaid}
 use Rattle.calls.proofs.Serving.{said-append, byte-ends, byte-stays}

@@ -1,4 +1,3 @@
--- Lines: laws of a line read byte by byte.
 -- Names: laws of the names of the calls.
 -- Answers: laws of the answer to a line, and of what it leaves.
 -- Hearing: that a line heard byte by byte is answered as its words are.
@@ -8,7 +7,6 @@
 -- Input: that input in pieces is answered line by line.
 -- Theorems: the headline statements.
 -- Determined: any two results that a public contract allows are equal.
-pub mod Lines
 pub mod Names
 pub mod Answers
 pub mod Hearing

@@ -22,7 +22,7 @@ use Rattle.words.specs.Limits.{answerMost}
 use Rattle.phrases.specs.Few.{PutFew}
 use Rattle.words.proofs.Lent.{rest-lent}
 use Rattle.phrases.proofs.Few.{all-put, all-few-put}
-use Rattle.calls.specs.Lines.{Heard}
+use Rattle.hearing.specs.Lines.{Heard}
 use Rattle.calls.specs.Answers.{answerLeft}
 use Rattle.calls.specs.Replies.{lineSaid, servedByte, saidTo, roomAt, servedTo, ServedLines, begunLine, ServedLast}
 use Rattle.calls.specs.Serving.{Served}

@@ -19,12 +19,12 @@ use Rattle.text.proofs.Puts.{put-no-byte}
 use Rattle.words.specs.Limits.{answerMost}
 use Rattle.phrases.specs.Few.{PutFew}
 use Rattle.phrases.proofs.Few.{few-text}
-use Rattle.calls.specs.Lines.{Heard, heard, unheard, heardByte, lineIn}
+use Rattle.hearing.specs.Lines.{Heard, heard, unheard, heardByte, lineIn}
 use Rattle.calls.specs.Answers.{answerLeft}
-use Rattle.calls.specs.declared.line.Line.{Line}
+use Rattle.hearing.specs.declared.line.Line.{Line}
 use Rattle.calls.specs.Replies.{lineSaid, lineAnew, servedByte, saidByte, saidTo, roomAt, servedTo}
 use Rattle.calls.specs.Serving.{lineEnd, Served}
-use Rattle.calls.proofs.Lines.{line-here, line-past, line-within}
+use Rattle.hearing.proofs.Lines.{line-here, line-past, line-within}
 
 -- ---- one byte
 -- LF

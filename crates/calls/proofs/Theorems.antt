@@ -2,6 +2,7 @@
 --
 --     line-is          a line's bytes, heard one by one, are answered as its words are
 --     answered-is      input in pieces, cut anywhere, is answered line by line
+--     flags-in-order   of the eight characters after a colon the first is the flag of field 0, the next that of field 1, and so on
 --
 -- The contracts tie the code to these definitions. `serve_lines` serves the first bytes of a piece: it puts what they say (`saidTo`)
 -- and leaves the line that they leave (`fed servedByte`), and `put_last` puts what the input's end says (`lastSaid`); `piecesSaid` is
@@ -9,13 +10,23 @@
 -- `specs/Replies.antt`). What is left to testing is that `serve` hands each the bytes that were read, and writes the bytes that were
 -- put.
 -- Assumes nothing.
-use Prim.Native.Nat.{ℕ}
-use mathlib.Core.List.{List, [], flatten}
-use mathlib.Core.Path.{_≡_, _∙_}
+use Prim.Native.Nat.{ℕ, _/_, _%_, _^_, _≤_, _<_}
+use mathlib.Core.Bool.{Bool, true, false}
+use mathlib.Core.List.{List, [], _∷_, flatten}
+use mathlib.Core.Path.{_≡_, refl, sym, ap, _∙_}
+use native.Mathlib.Omega.{arith}
+use lib.Dec.{eqb}
 use lib.ListN.{length}
+use Rattle.ranges.specs.Numbers.{bit}
+use Rattle.lists.specs.Limits.{mostFields}
+use Rattle.lists.specs.Rules.{flagOf}
+use Rattle.lists.specs.declared.shape.Shape.{Shape}
+use Rattle.lists.proofs.Dates.{flag-by}
 use Rattle.text.specs.Cells.{fed}
 use Rattle.words.specs.Limits.{lineRoom, nameRoom}
-use Rattle.calls.specs.Lines.{heard, unheard, heardByte}
+use Rattle.hearing.specs.Lines.{heard, unheard, heardByte}
+use Rattle.hearing.specs.Flags.{datesFrom}
+use Rattle.hearing.proofs.Dates.{oneOf, one-few, eight-flags}
 use Rattle.calls.specs.Answers.{answerTo, answerSaid}
 use Rattle.calls.specs.Input.{inputLines, inputSaid, piecesSaid}
 use Rattle.calls.proofs.Hearing as hearing
@@ -33,3 +44,40 @@ module _ (name numbers : List ℕ) (long : length name ≡ nameRoom) (many : len
       pieces-whole ps (heard unheard name numbers)
       ∙ lines-on (flatten ps) (heard unheard name numbers) [] (hears-first name numbers long many)
       ∙ lines-anew (inputLines (flatten ps))
+
+-- ---- the flags of D
+-- flag f is set, where the number of the flags has this bit
+flag-bit : (s : Shape) (f : ℕ) (t : Bool) → f < mostFields → s .dates / 2 ^ f % 2 ≡ bit t → flagOf s f ≡ t
+flag-bit s f t lt is = sym (flag-by s f lt) ∙ ap (λ b. eqb b 1) is ∙ one t
+  where
+    one : (u : Bool) → eqb (bit u) 1 ≡ u
+    one true = refl
+    one false = refl
+
+-- a flag is set exactly where its character is 1, which is 49
+pub record InOrder (s : Shape) (a b c d e f g h : ℕ) : Type 0 where
+  pub field-0 : flagOf s 0 ≡ eqb a 49
+  pub field-1 : flagOf s 1 ≡ eqb b 49
+  pub field-2 : flagOf s 2 ≡ eqb c 49
+  pub field-3 : flagOf s 3 ≡ eqb d 49
+  pub field-4 : flagOf s 4 ≡ eqb e 49
+  pub field-5 : flagOf s 5 ≡ eqb f 49
+  pub field-6 : flagOf s 6 ≡ eqb g 49
+  pub field-7 : flagOf s 7 ≡ eqb h 49
+
+pub flags-in-order : (fields a b c d e f g h : ℕ)
+    → InOrder record { d = fields; dates = datesFrom 0 (a ∷ b ∷ c ∷ d ∷ e ∷ f ∷ g ∷ h ∷ []) } a b c d e f g h
+flags-in-order fields a b c d e f g h =
+    let s : Shape = record { d = fields; dates = datesFrom 0 (a ∷ b ∷ c ∷ d ∷ e ∷ f ∷ g ∷ h ∷ []) } in
+    let sum = eight-flags a b c d e f g h in
+    let few : (oneOf a ≤ 1) × (oneOf b ≤ 1) × (oneOf c ≤ 1) × (oneOf d ≤ 1) × (oneOf e ≤ 1) × (oneOf f ≤ 1) × (oneOf g ≤ 1) × (oneOf h ≤ 1) = (one-few a, one-few b, one-few c, one-few d, one-few e, one-few f, one-few g, one-few h) in
+    record {
+      field-0 = flag-bit s 0 (eqb a 49) (omega arith) (omega (arith, sum, few));
+      field-1 = flag-bit s 1 (eqb b 49) (omega arith) (omega (arith, sum, few));
+      field-2 = flag-bit s 2 (eqb c 49) (omega arith) (omega (arith, sum, few));
+      field-3 = flag-bit s 3 (eqb d 49) (omega arith) (omega (arith, sum, few));
+      field-4 = flag-bit s 4 (eqb e 49) (omega arith) (omega (arith, sum, few));
+      field-5 = flag-bit s 5 (eqb f 49) (omega arith) (omega (arith, sum, few));
+      field-6 = flag-bit s 6 (eqb g 49) (omega arith) (omega (arith, sum, few));
+      field-7 = flag-bit s 7 (eqb h 49) (omega arith) (omega (arith, sum, few));
+    }

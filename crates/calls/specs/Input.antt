@@ -8,7 +8,7 @@ use lib.Dec.{eqb}
 use Rattle.ranges.specs.Numbers.{pick}
 use Rattle.text.specs.Cells.{fed}
 use Rattle.text.specs.Rows.{inFront}
-use Rattle.calls.specs.Lines.{Heard}
+use Rattle.hearing.specs.Lines.{Heard}
 use Rattle.calls.specs.Answers.{answerTo}
 use Rattle.calls.specs.Replies.{servedByte, saidTo, lastSaid}
 

@@ -1,6 +1,5 @@
 -- To be believed: what the contracts of public functions and the theorems say.
 pub mod Names
-pub mod Lines
 pub mod Answers
 pub mod Replies
 pub mod Input

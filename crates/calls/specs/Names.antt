@@ -1,11 +1,14 @@
--- The names of the calls.
+-- The names of the calls, and which of them have a D, which may have flags.
 -- Assumes nothing: these are definitions.
 use Prim.Native.Nat.{ℕ}
+use mathlib.Core.Bool.{Bool, true, false}
 use mathlib.Core.List.{List}
 use Rattle.ranges.specs.Numbers.{pick, sameList}
 use Rattle.text.specs.Texts.{bytes}
 use Rattle.calls.specs.declared.word.Word.{Word}
 use Rattle.calls.specs.declared.word.Word.the-variants.{Check, Scan, Independent, Table, Side, P2r, R2p, Unknown}
+use Rattle.hearing.specs.declared.flags.Flags.{Flags}
+use Rattle.hearing.specs.declared.flags.Flags.the-variants.{Without, Read, Bad}
 use Rattle.words.specs.declared.table_words.TableWord.the-variants.{Build, Lookup, Audit, Report}
 
 -- the calls of ranges and prefixes
@@ -32,3 +35,20 @@ wordOf name =
     (pick (sameList name (bytes "scan")) Scan
     (pick (sameList name (bytes "independent")) Independent
     (tableWord name)))
+
+-- a call's first number is D
+abbrev pub hasD : Word → Bool
+hasD Check = true
+hasD Scan = true
+hasD Independent = true
+hasD (Table word) = true
+hasD Side = true
+hasD P2r = false
+hasD R2p = false
+hasD Unknown = false
+
+-- it may have such flags: eight flags for D, or none
+abbrev pub flagsFit : Word → Flags → Bool
+flagsFit word Without = true
+flagsFit word (Read c v) = hasD word
+flagsFit word Bad = false

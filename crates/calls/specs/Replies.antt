@@ -11,8 +11,8 @@ use Rattle.ranges.specs.Numbers.{pick, _and_}
 use Rattle.text.specs.Cells.{fed}
 use Rattle.text.specs.Puts.{Put, placeAfter}
 use Rattle.words.specs.Limits.{answerMost}
-use Rattle.calls.specs.declared.line.Line.{Line}
-use Rattle.calls.specs.Lines.{Heard, heard, unheard, heardByte}
+use Rattle.hearing.specs.declared.line.Line.{Line}
+use Rattle.hearing.specs.Lines.{Heard, heard, unheard, heardByte}
 use Rattle.calls.specs.Answers.{answerSaid, answerLeft}
 
 -- ---- bytes

@@ -10,7 +10,7 @@ use Rattle.ranges.specs.Numbers.{pick}
 use Rattle.text.specs.Cells.{fed}
 use Rattle.words.specs.Limits.{answerMost}
 use Rattle.phrases.specs.Few.{PutFew}
-use Rattle.calls.specs.Lines.{Heard}
+use Rattle.hearing.specs.Lines.{Heard}
 use Rattle.calls.specs.Replies.{servedByte, saidTo}
 
 -- how many bytes: up to the first LF, itself counted

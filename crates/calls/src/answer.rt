@@ -1,7 +1,11 @@
 // The answer to a line that has been heard whole.
-use crate::line::Line;
 use crate::word::Word;
+use crate::word::flags_fit;
 use crate::word::word_of;
+use hearing::flags::Flags;
+use hearing::flags::dates_of;
+use hearing::flags::flags_end;
+use hearing::line::Line;
 use phrases::say::put_bad;
 use text::put::put_byte;
 use text::row::row_next;
@@ -16,28 +20,39 @@ ghost use Prim.Native.Nat.{_-_};
 ghost use mathlib.Core.Path.{_≡_};
 ghost use Rattle.words.specs.Limits.{answerMost};
 ghost use Rattle.phrases.specs.Few.{PutFew};
-ghost use Rattle.calls.specs.Lines.{heard};
-ghost use Rattle.calls.specs.Answers.{wordSaid, wordLeft, answerSaid, answerLeft};
+ghost use Rattle.hearing.specs.Lines.{heard};
+ghost use Rattle.calls.specs.Answers.{wordSaid, wordLeft, flaggedSaid, flaggedLeft, answerSaid, answerLeft};
 ghost use Rattle.calls.specs.Replies.{lineSaid};
 
-// Puts what a call answers, given the line's numbers after its name. One call, r2p, writes among them.
-fn put_word(word: Word, given: &mut [u32], out: &mut [u8], at: usize) -> usize
-    ensures { λ r. ⌜ PutFew (answerMost - 1) (now (out .entry)) at (wordSaid word (now (given .entry))) (now (out .exit)) r ⌝ }
+// Puts what a call answers, given the flags of D and the line's numbers after its name. One call, r2p, writes among them.
+fn put_word(word: Word, dates: u32, given: &mut [u32], out: &mut [u8], at: usize) -> usize
+    ensures { λ r. ⌜ PutFew (answerMost - 1) (now (out .entry)) at (wordSaid word dates (now (given .entry))) (now (out .exit)) r ⌝ }
     ensures { λ _. ⌜ now (given .exit) ≡ wordLeft word (now (given .entry)) ⌝ }
 {
     match word {
-        Word::Check => call_check(given, out, at),
-        Word::Scan => call_scan(given, out, at),
-        Word::Independent => call_independent(given, out, at),
-        Word::Table(call) => call_table(call, given, out, at),
-        Word::Side => call_side(given, out, at),
+        Word::Check => call_check(dates, given, out, at),
+        Word::Scan => call_scan(dates, given, out, at),
+        Word::Independent => call_independent(dates, given, out, at),
+        Word::Table(call) => call_table(call, dates, given, out, at),
+        Word::Side => call_side(dates, given, out, at),
         Word::P2r => call_p2r(given, out, at),
         Word::R2p => call_r2p(given, out, at),
         Word::Unknown => put_bad(out, at),
     }
 }
 
-// Puts the answer to a line, without its LF. The line's end ends its last number, which goes to its place first.
+// Puts the same, unless the call may not have such flags.
+fn put_flagged(word: Word, flags: Flags, given: &mut [u32], out: &mut [u8], at: usize) -> usize
+    ensures { λ r. ⌜ PutFew (answerMost - 1) (now (out .entry)) at (flaggedSaid word flags (now (given .entry))) (now (out .exit)) r ⌝ }
+    ensures { λ _. ⌜ now (given .exit) ≡ flaggedLeft word flags (now (given .entry)) ⌝ }
+{
+    if !flags_fit(word, flags) {
+        return put_bad(out, at);
+    }
+    put_word(word, dates_of(flags), given, out, at)
+}
+
+// Puts the answer to a line, without its LF. The line's end ends its last number, which goes to its place first, and the flags.
 fn put_answer(line: Line, name: &[u8], numbers: &mut [u32], out: &mut [u8], at: usize) -> usize
     ensures { λ r.
         ⌜ PutFew (answerMost - 1) (now (out .entry)) at (answerSaid (heard line (now (name .entry)) (now (numbers .entry)))) (now (out .exit)) r ⌝ }
@@ -60,7 +75,9 @@ fn put_answer(line: Line, name: &[u8], numbers: &mut [u32], out: &mut [u8], at: 
         return put_bad(out, at);
     }
     let word = word_of(&name[..length]);
-    put_word(word, &mut numbers[..count], out, at)
+    let came = line.flags;
+    let flags = flags_end(came);
+    put_flagged(word, flags, &mut numbers[..count], out, at)
 }
 
 // Puts the answer to a line, with its LF.

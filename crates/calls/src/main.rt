@@ -8,13 +8,12 @@
 // The text of --help, below, is the protocol. The status is 0 where all lines were read and answered, refusals and bad lines
 // among them, 1 where something can't be read or written, 2 for wrong use.
 //
-// A line may be of any length and may come in pieces: it is heard byte by byte (`line`), its numbers go to a lent run,
-// and once it has ended its word decides what is made of them (`word`, `answer`). What each word answers is the crate
+// A line may be of any length and may come in pieces: it is heard byte by byte (the crate `hearing`), its numbers go to a lent
+// run, and once it has ended its word decides what is made of them (`word`, `answer`). What each word answers is the crate
 // `words`: it finds the parts of the line's numbers, calls the library, and puts the answer's text into the run of bytes
 // that is written out. So input comes to answers on slices, and that is proved (`reply`); only `read` and `write` are
 // the system's (`serve`).
 mod answer;
-mod line;
 mod reply;
 mod serve;
 mod word;
@@ -66,8 +65,13 @@ Words are parted by single blanks, and LF ends a line; what follows the last LF,
 and RUN are a length, at most 16500, 18500 and 200, and then that many numbers; HEADER is eight numbers. Numbers are\n\
 plain decimals without leading zeros, 0 to 4294967295, those of a table to 65535.\n\
 \n\
-A lookup says edge where in one field or more the header's number is the low or the high of the rule's range, else plain.\n\
-side says where NUMBER lies as against LOW and HIGH: both is where the three are one. D and FIELD alter nothing yet.\n\
+D is the number of fields, or that and flags, D:FFFFFFFF: eight characters 0 or 1, the first for field 0, the next for field\n\
+1, and so on. 1 says that the field is a date: its ranges hold LOW to before HIGH, where others hold HIGH too. Flags from\n\
+field D on alter nothing.\n\
+\n\
+A lookup says edge where in one field or more the header's number is the first or the last that the rule's range holds, else\n\
+plain. side says where NUMBER lies as against these two of the range LOW to HIGH in FIELD, whatever D is: both is where it\n\
+is the only one.\n\
 \n\
 Exit status, by ./run or as installed: 0 where all lines were read and answered, 1 where something can't be read or\n\
 written, 2 for wrong use.\n",

@@ -1,13 +1,13 @@
 // Lines in, answers out, on slices: bytes are heard, and where a line ends in them its answer is put.
 use crate::answer::answer;
-use crate::line::Line;
-use crate::line::hear;
-use crate::line::line_in;
-use crate::line::line_start;
+use hearing::line::Line;
+use hearing::line::hear;
+use hearing::line::line_in;
+use hearing::line::line_start;
 use words::limits::ANSWER_MOST;
 ghost use mathlib.Core.Path.{_≡_};
 ghost use lib.ListN.{length};
-ghost use Rattle.calls.specs.Lines.{heard};
+ghost use Rattle.hearing.specs.Lines.{heard};
 ghost use Rattle.calls.specs.Serving.{Served};
 ghost use Rattle.calls.specs.Replies.{ServedLines, roomAt, begunLine, ServedLast};
 

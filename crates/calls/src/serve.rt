@@ -1,8 +1,8 @@
 // Standard input to standard output: what is read is served piece by piece, and answers are written in large pieces.
-use crate::line::Line;
-use crate::line::line_start;
 use crate::reply::put_last;
 use crate::reply::serve_lines;
+use hearing::line::Line;
+use hearing::line::line_start;
 use libc::STDIN_FILENO;
 use programs::output::write_out;
 ghost use Rattle.programs.specs.Output.{ShortTold};

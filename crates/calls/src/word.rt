@@ -1,7 +1,8 @@
-// The names of the calls.
+// The names of the calls, and which of them have a D, which may have flags.
+use hearing::flags::Flags;
 use words::table_words::TableWord;
 ghost use mathlib.Core.Path.{_≡_};
-ghost use Rattle.calls.specs.Names.{prefixWord, tableWord, wordOf};
+ghost use Rattle.calls.specs.Names.{prefixWord, tableWord, wordOf, hasD, flagsFit};
 
 // What a line's first word asks for.
 pub enum Word {
@@ -64,4 +65,31 @@ fn prefix_word(name: &[u8]) -> Word
         return Word::R2p;
     }
     Word::Unknown
+}
+
+// Says whether a call's first number is D.
+fn has_d(word: Word) -> bool
+    ensures { λ r. ⌜ r ≡ hasD word ⌝ }
+{
+    match word {
+        Word::Check => true,
+        Word::Scan => true,
+        Word::Independent => true,
+        Word::Table(call) => true,
+        Word::Side => true,
+        Word::P2r => false,
+        Word::R2p => false,
+        Word::Unknown => false,
+    }
+}
+
+// Says whether a call may have such flags: eight flags for D, or none.
+pub fn flags_fit(word: Word, flags: Flags) -> bool
+    ensures { λ r. ⌜ r ≡ flagsFit word flags ⌝ }
+{
+    match flags {
+        Flags::Without => true,
+        Flags::Read { count, dates } => has_d(word),
+        Flags::Bad => false,
+    }
 }

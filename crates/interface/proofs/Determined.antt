@@ -40,46 +40,46 @@ module _ {k : ℕ} {s : Said} {r r′ : ℕ} {run run′ : List ℕ} (p : Told k
 pub check-one : OneAnswer 2 check-kinds.ps check-kinds.r check.Learnt
 check-one κs a x y e g p q = returned-one p q
 
-pub check-answer-one : OneRun 2 check-kinds.ps check-kinds.r check.Learnt (λ κs e. now (e .1 .1 .0))
+pub check-answer-one : OneRun 2 check-kinds.ps check-kinds.r check.Learnt (λ κs e. now (e .1 .1 .1 .0))
 check-answer-one κs a x y e g p q = written-one p q
 
 pub plain-scan-one : OneAnswer 3 plain-scan-kinds.ps plain-scan-kinds.r plain-scan.Learnt
 plain-scan-one κs a x y e g p q = returned-one p q
 
-pub plain-scan-answer-one : OneRun 3 plain-scan-kinds.ps plain-scan-kinds.r plain-scan.Learnt (λ κs e. now (e .1 .1 .1 .0))
+pub plain-scan-answer-one : OneRun 3 plain-scan-kinds.ps plain-scan-kinds.r plain-scan.Learnt (λ κs e. now (e .1 .1 .1 .1 .0))
 plain-scan-answer-one κs a x y e g p q = written-one p q
 
 pub independence-one : OneAnswer 2 independence-kinds.ps independence-kinds.r independence.Learnt
 independence-one κs a x y e g p q = returned-one p q
 
-pub independence-answer-one : OneRun 2 independence-kinds.ps independence-kinds.r independence.Learnt (λ κs e. now (e .1 .1 .0))
+pub independence-answer-one : OneRun 2 independence-kinds.ps independence-kinds.r independence.Learnt (λ κs e. now (e .1 .1 .1 .0))
 independence-answer-one κs a x y e g p q = written-one p q
 
 pub build-one : OneAnswer 3 build-kinds.ps build-kinds.r build.Learnt
 build-one κs a x y e g p q = returned-one (p .0) (q .0)
 
-pub build-answer-one : OneRun 3 build-kinds.ps build-kinds.r build.Learnt (λ κs e. now (e .1 .1 .1 .0))
+pub build-answer-one : OneRun 3 build-kinds.ps build-kinds.r build.Learnt (λ κs e. now (e .1 .1 .1 .1 .0))
 build-answer-one κs a x y e g p q = written-one (p .0) (q .0)
 
-pub build-table-one : OneRun 3 build-kinds.ps build-kinds.r build.Learnt (λ κs e. now (e .1 .1 .0))
+pub build-table-one : OneRun 3 build-kinds.ps build-kinds.r build.Learnt (λ κs e. now (e .1 .1 .1 .0))
 build-table-one κs a x y e g p q = p .1 ∙ sym (q .1)
 
 pub lookup-one : OneAnswer 4 lookup-kinds.ps lookup-kinds.r lookup.Learnt
 lookup-one κs a x y e g p q = returned-one p q
 
-pub lookup-answer-one : OneRun 4 lookup-kinds.ps lookup-kinds.r lookup.Learnt (λ κs e. now (e .1 .1 .1 .1 .0))
+pub lookup-answer-one : OneRun 4 lookup-kinds.ps lookup-kinds.r lookup.Learnt (λ κs e. now (e .1 .1 .1 .1 .1 .0))
 lookup-answer-one κs a x y e g p q = written-one p q
 
 pub audit-one : OneAnswer 3 audit-kinds.ps audit-kinds.r audit.Learnt
 audit-one κs a x y e g p q = returned-one p q
 
-pub audit-answer-one : OneRun 3 audit-kinds.ps audit-kinds.r audit.Learnt (λ κs e. now (e .1 .1 .1 .0))
+pub audit-answer-one : OneRun 3 audit-kinds.ps audit-kinds.r audit.Learnt (λ κs e. now (e .1 .1 .1 .1 .0))
 audit-answer-one κs a x y e g p q = written-one p q
 
 pub report-one : OneAnswer 3 report-kinds.ps report-kinds.r report.Learnt
 report-one κs a x y e g p q = returned-one p q
 
-pub report-answer-one : OneRun 3 report-kinds.ps report-kinds.r report.Learnt (λ κs e. now (e .1 .1 .1 .1 .0))
+pub report-answer-one : OneRun 3 report-kinds.ps report-kinds.r report.Learnt (λ κs e. now (e .1 .1 .1 .1 .1 .0))
 report-answer-one κs a x y e g p q = written-one p q
 
 pub prefix-to-range-one : OneAnswer 1 prefix-to-range-kinds.ps prefix-to-range-kinds.r prefix-to-range.Learnt

@@ -8,7 +8,7 @@ use mathlib.Core.List.{List, [], _∷_, _++_}
 use lib.ListN.{length, replicate}
 use Rattle.ranges.specs.Numbers.{bit}
 use Rattle.ranges.specs.Refusals.{none, Said, saidOf}
-use Rattle.lists.specs.Rules.{Rules, shapeOf, listed}
+use Rattle.lists.specs.Rules.{Rules, listed}
 use Rattle.lookup.specs.declared.lookup.Looked.{Looked}
 use Rattle.lookup.specs.declared.lookup.Looked.the-variants.{Rule, Nothing, Refused}
 
@@ -22,9 +22,9 @@ pub record Told (k : ℕ) (s : Said) (r : ℕ) (run : List ℕ) : Type 0 where
   pub returned : r ≡ s .number
   pub written : run ≡ numbersOf k s
 
--- a list as lent, of rules of d fields
-abbrev pub rulesOf : ℕ → List ℕ → Rules
-rulesOf d l = listed (shapeOf d) l
+-- a list as lent, of rules of d fields, and the flags that say which fields are dates
+abbrev pub rulesOf : ℕ → ℕ → List ℕ → Rules
+rulesOf d dates l = listed record { d = d; dates = dates } l
 
 -- what a lookup says with each number at its own place: 1, the rule number, the tests, and 1 at an edge, else 0; 0, 0, the
 -- tests and 0 where no rule fits (`saysLooked` leaves the rule number out there, which would move the tests)

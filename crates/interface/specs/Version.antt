@@ -4,4 +4,4 @@ use Prim.Native.Nat.{ℕ}
 
 -- raised by each change of an answer's numbers or of a function's parameters
 abbrev pub versionNow : ℕ
-versionNow = 2
+versionNow = 3

@@ -3,7 +3,7 @@ use crate::answer::put_count;
 use crate::answer::put_looked;
 use crate::answer::put_part;
 use crate::answer::put_verdict;
-use lists::shape::shape_of;
+use lists::shape::Shape;
 use lookup::lookup::lookup;
 use sorting::audit::audit;
 use sorting::build::build;
@@ -18,11 +18,17 @@ ghost use Rattle.interface.specs.Answers.{Told, rulesOf, saysInPlace};
 // Builds the table of a list: writes every number of it and answers b, the number of partitions. A refusal leaves the
 // table as lent.
 #[no_mangle]
-pub extern "C" fn cuy_build(d: usize, list: &[u32], table: &mut [u16], answer: &mut [u64; 4]) -> u32
-    ensures { λ r. ⌜ Told 1 (saysCount (buildOf (rulesOf d (now (list .entry))) (now (table .entry)))) r (now (answer .exit)) ⌝ }
-    ensures { λ _. ⌜ now (table .exit) ≡ tableAfter (rulesOf d (now (list .entry))) (now (table .entry)) ⌝ }
+pub extern "C" fn cuy_build(
+    d: usize,
+    dates: u32,
+    list: &[u32],
+    table: &mut [u16],
+    answer: &mut [u64; 4],
+) -> u32
+    ensures { λ r. ⌜ Told 1 (saysCount (buildOf (rulesOf d dates (now (list .entry))) (now (table .entry)))) r (now (answer .exit)) ⌝ }
+    ensures { λ _. ⌜ now (table .exit) ≡ tableAfter (rulesOf d dates (now (list .entry))) (now (table .entry)) ⌝ }
 {
-    put_count(build(shape_of(d), list, table), answer)
+    put_count(build(Shape { d, dates }, list, table), answer)
 }
 
 // Looks a header up in a table: answers 1 and the first match, or 0 and 0 where no rule fits, the number of tests, and 1
@@ -30,34 +36,42 @@ pub extern "C" fn cuy_build(d: usize, list: &[u32], table: &mut [u16], answer: &
 #[no_mangle]
 pub extern "C" fn cuy_lookup(
     d: usize,
+    dates: u32,
     list: &[u32],
     table: &[u16],
     header: &[u32; 8],
     answer: &mut [u64; 7],
 ) -> u32
-    ensures { λ r. ⌜ Told 4 (saysInPlace (lookupOf (rulesOf d (now (list .entry))) (now (table .entry)) (now (header .entry)))) r (now (answer .exit)) ⌝ }
+    ensures { λ r. ⌜ Told 4 (saysInPlace (lookupOf (rulesOf d dates (now (list .entry))) (now (table .entry)) (now (header .entry)))) r (now (answer .exit)) ⌝ }
 {
-    put_looked(lookup(shape_of(d), list, table, *header), answer)
+    put_looked(lookup(Shape { d, dates }, list, table, *header), answer)
 }
 
 // Audits a table: answers 1 where every number of it is what the build would write for this list, else 0.
 #[no_mangle]
-pub extern "C" fn cuy_audit(d: usize, list: &[u32], table: &[u16], answer: &mut [u64; 4]) -> u32
-    ensures { λ r. ⌜ Told 1 (saysVerdict (auditOf (rulesOf d (now (list .entry))) (now (table .entry)))) r (now (answer .exit)) ⌝ }
+pub extern "C" fn cuy_audit(
+    d: usize,
+    dates: u32,
+    list: &[u32],
+    table: &[u16],
+    answer: &mut [u64; 4],
+) -> u32
+    ensures { λ r. ⌜ Told 1 (saysVerdict (auditOf (rulesOf d dates (now (list .entry))) (now (table .entry)))) r (now (answer .exit)) ⌝ }
 {
-    put_verdict(audit(shape_of(d), list, table), answer)
+    put_verdict(audit(Shape { d, dates }, list, table), answer)
 }
 
 // Reports on a partition of a table: answers its size and its smallest rule number, worked out by reading its places.
 #[no_mangle]
 pub extern "C" fn cuy_report(
     d: usize,
+    dates: u32,
     list: &[u32],
     table: &[u16],
     partition: usize,
     answer: &mut [u64; 5],
 ) -> u32
-    ensures { λ r. ⌜ Told 2 (saysPart (reportOf (rulesOf d (now (list .entry))) (now (table .entry)) partition)) r (now (answer .exit)) ⌝ }
+    ensures { λ r. ⌜ Told 2 (saysPart (reportOf (rulesOf d dates (now (list .entry))) (now (table .entry)) partition)) r (now (answer .exit)) ⌝ }
 {
-    put_part(report(shape_of(d), list, table, partition), answer)
+    put_part(report(Shape { d, dates }, list, table, partition), answer)
 }

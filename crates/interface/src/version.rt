@@ -8,5 +8,5 @@ ghost use Rattle.interface.specs.Version.{versionNow};
 pub extern "C" fn cuy_version() -> u32
     ensures { λ r. ⌜ r ≡ versionNow ⌝ }
 {
-    2
+    3
 }

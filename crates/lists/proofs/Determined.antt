@@ -10,6 +10,10 @@ use Rattle.lists.proofs.shape.rules_in.Kinds as rules-in-kinds
 use Rattle.lists.proofs.shape.rules_in.Reads as rules-in
 use Rattle.lists.proofs.shape.shape_of.Kinds as shape-of-kinds
 use Rattle.lists.proofs.shape.shape_of.Reads as shape-of
+use Rattle.lists.proofs.shape.is_date.Kinds as is-date-kinds
+use Rattle.lists.proofs.shape.is_date.Reads as is-date
+use Rattle.lists.proofs.range.field_range.Kinds as field-range-kinds
+use Rattle.lists.proofs.range.field_range.Reads as field-range
 use Rattle.lists.proofs.shape.in_list.Kinds as in-list-kinds
 use Rattle.lists.proofs.shape.in_list.Reads as in-list
 use Rattle.lists.proofs.shape.shape_fault.Kinds as shape-fault-kinds
@@ -35,6 +39,12 @@ rules-in-one κs a x y e g p q = p ∙ sym q
 
 pub shape-of-one : OneAnswer 0 shape-of-kinds.ps shape-of-kinds.r shape-of.Learnt
 shape-of-one κs a x y e g p q = p ∙ sym q
+
+pub is-date-one : OneAnswer 0 is-date-kinds.ps is-date-kinds.r is-date.Learnt
+is-date-one κs a x y e g p q = p ∙ sym q
+
+pub field-range-one : OneAnswer 0 field-range-kinds.ps field-range-kinds.r field-range.Learnt
+field-range-one κs a x y e g p q = p ∙ sym q
 
 pub in-list-one : OneAnswer 1 in-list-kinds.ps in-list-kinds.r in-list.Learnt
 in-list-one κs a x y e g p q = p ∙ sym q

@@ -1,21 +1,24 @@
 -- Laws of what fits a header (`specs/FirstMatch.antt`, `specs/Scan.antt`): a field, a rule, and which rule is the first.
 --     outcome-read                          the outcome of any test of one field, as the code works it out
 --     side-read, inside-read                the same of the range test
+--     below-read, above-read, within-read   the same where each end is asked by itself
 --     match-rule, match-none                the first match, or none, from the rule at which the search for it ends
 --     fits-inside, inside-fits              what it means that a rule fits, either way round
 --     fits-same, first-same                 only the first d numbers of a header are read
 -- Assumes nothing.
 use Prim.Native.Nat.{ℕ, _≤_, _<_}
-use mathlib.Core.Bool.{true}
+use mathlib.Core.Bool.{Bool, true, false}
 use mathlib.Core.List.{List}
 use mathlib.Core.Path.{_≡_, sym, ap, _∙_}
 use lib.ListN.{getD}
-use borrow.Author.Tests.{lt-ltb, le-ltb}
+use lib.Dec.{ltb, leb}
+use borrow.Author.Tests.{lt-ltb, le-ltb, ltb-true, ltb-false, leb-true, leb-false}
 use Rattle.ranges.specs.Sides.{sideOf, isInside}
 use Rattle.ranges.specs.declared.side.Range.{Range}
 use Rattle.ranges.specs.declared.side.Side.{Side}
+use Rattle.ranges.specs.declared.side.Side.the-variants.{Below, Above, Inside as InsideIt}
 use Rattle.ranges.proofs.Numbers.{all-yes, all-at, all-same, least-same}
-use Rattle.ranges.proofs.Sides.{inside-yes, inside-at}
+use Rattle.ranges.proofs.Sides.{side-below, side-above, side-inside, inside-yes, inside-at}
 use Rattle.lists.specs.Rules.{Rules, fieldsOf, rulesIn, lowOf, endsAt, rangeAt}
 use Rattle.lists.specs.FirstMatch.{sideAt, insideAt, fits, firstMatch}
 use Rattle.lists.specs.Scan.{matchOf}
@@ -29,6 +32,21 @@ outcome-read test R h i f g is-range s is-s = is-s ∙ ap (λ k. test (k .low) (
 module _ (R : Rules) (h : List ℕ) (i f : ℕ) (g : Range) (is-range : g ≡ rangeAt R i f) where
   pub side-read : (s : Side) → s ≡ sideOf (g .low) (g .past) (getD h f 0) → s ≡ sideAt R h i f
   side-read = outcome-read sideOf R h i f g is-range
+
+  -- each end asked by itself: t is a callee's answer whether the number is below, and u whether it is past
+  module _ (t : Bool) (is-t : t ≡ ltb (getD h f 0) (g .low)) where
+    pub below-read : t ≡ true → Below ≡ sideAt R h i f
+    below-read below = side-read Below (sym (side-below (g .low) (g .past) (getD h f 0) (ltb-true (getD h f 0) (g .low) (sym is-t ∙ below))))
+
+    module _ (over : t ≡ false) (u : Bool) (is-u : u ≡ leb (g .past) (getD h f 0)) where
+      from-low : g .low ≤ getD h f 0
+      from-low = ltb-false (getD h f 0) (g .low) (sym is-t ∙ over)
+
+      pub above-read : u ≡ true → Above ≡ sideAt R h i f
+      above-read past = side-read Above (sym (side-above (g .low) (g .past) (getD h f 0) from-low (leb-true (g .past) (getD h f 0) (sym is-u ∙ past))))
+
+      pub within-read : u ≡ false → InsideIt ≡ sideAt R h i f
+      within-read before = side-read InsideIt (sym (side-inside (g .low) (g .past) (getD h f 0) from-low (leb-false (g .past) (getD h f 0) (sym is-u ∙ before))))
 
   pub inside-read : (s t : Side) → s ≡ sideOf (g .low) (g .past) (getD h f 0) → s ≡ t → isInside t ≡ insideAt R h i f
   inside-read s t is-side is-t = ap isInside (sym is-t ∙ side-read s is-side)

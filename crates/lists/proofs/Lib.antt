@@ -1,5 +1,6 @@
 -- The laws that proofs of this crate and above cite:
 -- Search: of a loop that tests 0, 1, .. until one answers otherwise.
+-- Dates: which fields are dates.
 -- Rules: where a rule's numbers stand, and what a list of the right shape is.
 -- InList: which rules a list has.
 -- Faults: which refusal of 1 to 4 a list meets.
@@ -13,6 +14,7 @@
 -- Determined: any two results that a public contract allows are equal.
 -- Theorems: the statements on check, scan and order independence.
 pub mod Search
+pub mod Dates
 pub mod Rules
 pub mod InList
 pub mod Faults

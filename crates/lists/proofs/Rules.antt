@@ -9,13 +9,16 @@
 --     square-few       a product of two numbers of 16 bits is far below a word
 -- Assumes nothing.
 use Prim.Native.Nat.{ℕ, suc, _+_, _*_, _/_, _%_, _^_, _≤_, _<_}
+use mathlib.Core.List.{List}
 use mathlib.Core.Path.{_≡_, sym, ap, _∙_}
 use native.Mathlib.Omega.{arith}
 use native.Mathlib.Nat.{mul-le-mul, mul-le-mul-right, div-add-mod', div-mul-le-self, div-div-eq-div-mul, div-zero, mul-assoc, mul-comm, mul-mod-left, le-div-iff-mul-le, div-lt-iff-lt-mul, le-of-suc-le-suc}
 use lib.ListN.{length, getD}
-use Rattle.ranges.specs.Sides.{closedAt}
-use Rattle.lists.specs.Rules.{Rules, fieldsOf, rulesIn, offsetOf, lowOf, highOf, endsAt, rangeAt}
+use Rattle.ranges.specs.Sides.{rangeOf}
+use Rattle.lists.specs.Rules.{Rules, flagOf, listed, fieldsOf, rulesIn, offsetOf, lowOf, highOf, endsAt, rangeAt}
+use Rattle.lists.specs.declared.shape.Shape.{Shape}
 use Rattle.lists.specs.Asked.{HasRule, HasField}
+use Rattle.lists.proofs.Dates.{date-flag}
 pub use Rattle.lists.specs.Rules.{Shaped}
 
 -- a length that is a multiple of 2d is n * d * 2
@@ -84,11 +87,11 @@ module _ (R : Rules) (i at : ℕ) (some : 1 ≤ fieldsOf R) (is-offset : at ≡ 
       let room : 0 < fieldsOf R * 2 = omega arith in
       le-of-suc-le-suc (div-lt-iff-lt-mul room .1 (rw row-ends at lt))
 
--- what is read where a callee said that the low of field f of rule i stands, and one further
-module _ (R : Rules) (i f at : ℕ) (is-offset : at ≡ offsetOf (fieldsOf R) i f) where
-  pub range-read : closedAt (getD (R .numbers) at 0) (getD (R .numbers) (at + 1) 0) ≡ rangeAt R i f
-  unfolding lowOf highOf endsAt
-  range-read = rw is-offset
+-- what is read where a callee said that the low of field f of rule i stands, and one further, under flag f
+pub range-read : (s : Shape) (l : List ℕ) (i f at : ℕ) → f < s .d → at ≡ offsetOf (s .d) i f
+    → rangeOf (flagOf s f) (getD l at 0) (getD l (at + 1) 0) ≡ rangeAt (listed s l) i f
+unfolding lowOf highOf endsAt
+range-read s l i f at in-row is-offset = rw (is-offset, date-flag s l f in-row)
 
 -- a product of two numbers of 16 bits, whatever they are
 pub square-few : (d i : ℕ) → d < 2 ^ 16 → i < 2 ^ 16 → i * d ≤ 4294836225

@@ -1,7 +1,7 @@
 -- What a reader may rely on of lists (layer 2). The statements, R a list with its shape and h a header:
 --
 --     T6  check-is-n-iff          a check answers n exactly when none of 1 to 4 applies
---         check-4-iff             it refuses by 4 at (i, f) exactly when the shape stands, low > high there, and in no rule or field before
+--         check-4-iff             it refuses by 4 at (i, f) exactly when the shape stands, the range there holds no number, and none before does so
 --     T7  scan-rule-iff           a scan answers rule i exactly when none of 1 to 4 applies, i fits, and no rule before i fits
 --         scan-nothing-iff        it answers none exactly when none of 1 to 4 applies and no rule fits
 --         rule-fits-iff           one rule's test answers yes exactly when d is 1 to 8, the list has the rule, and all d numbers are in its ranges
@@ -15,6 +15,10 @@
 --     W2  edge-iff                a rule has a field at an end exactly when in one of the d fields the number is low or the last number of its range
 --         rule-edge-iff           one rule's test answers yes exactly when d is 1 to 8, the list has the rule, and it has such a field
 --         edge-unread             headers that agree on the first d numbers get the same answer
+--     W8  flags-past-d-unread     shapes of one d whose flags agree below d give a list one and the same meaning, so that every operation gives
+--                                 the same answer and leaves the same table
+--         date-ends-before-high   a range of dates ends before its high ..
+--         plain-ends-with-high    .. and every range of a list without flags with it
 --
 -- The contracts of `check_list`, `plain_scan`, `rule_fits`, `independence` and `rule_edge` are equations with the definitions named here, so each
 -- statement is one on the function. A header is any list of numbers, but for the two statements of T8 that say otherwise: what is said of
@@ -24,17 +28,19 @@ use Prim.Native.Nat.{ℕ, _^_, _≤_, _<_}
 use mathlib.Core.Bool.{true, false}
 use mathlib.Core.List.{List}
 use mathlib.Core.Logic.{_↔_}
-use mathlib.Core.Path.{_≡_, sym, ap}
+use mathlib.Core.Path.{_≡_, sym, ap, _∙_}
 use native.Mathlib.Omega.{arith}
 use lib.Dec.{ltb}
 use lib.ListN.{length, getD}
 use borrow.Author.Tests.{lt-ltb, le-ltb, ltb-true, ltb-false, le-leb, lt-leb, leb-true, leb-false, eqb-true}
 use Rattle.ranges.specs.Numbers.{least}
+use Rattle.ranges.specs.Sides.{endOf}
 use Rattle.ranges.specs.Refusals.{none, stands, refusedAt, LowAboveHigh}
 use Rattle.ranges.specs.declared.refusal.Refusal.{Refusal}
 use Rattle.ranges.specs.declared.refusal.Count.the-variants.{Is, Refused as CountRefused}
 use Rattle.ranges.proofs.Numbers.{never, picked, not-picked, and-left, and-right, least-is, least-none, least-hit, least-under}
-use Rattle.lists.specs.Rules.{Rules, Shaped, fieldsOf, rulesIn, lowOf, endsAt, isVoid}
+use Rattle.lists.specs.declared.shape.Shape.{Shape}
+use Rattle.lists.specs.Rules.{Rules, Shaped, shapeOf, flagOf, listed, fieldsOf, rulesIn, lowOf, highOf, endsAt, isVoid}
 use Rattle.lists.specs.Faults.{inList, shapeFault, endsFault, listFault, badRule}
 use Rattle.lists.specs.Check.{checkOf}
 use Rattle.lists.specs.Headers.{headerLength, IsHeader}
@@ -44,6 +50,7 @@ use Rattle.lists.specs.Edges.{edgeOf, ruleEdge}
 use Rattle.lists.specs.Independence.{meet, independenceOf}
 use Rattle.lists.specs.declared.scan.Match.the-variants.{Rule, Nothing, Refused as MatchRefused}
 use Rattle.lists.specs.declared.independence.Pair.the-variants.{Independent, Both}
+use Rattle.lists.proofs.Dates.{date-flag, dates-same, date-ends, ends-plain}
 use Rattle.lists.proofs.InList.{Listed, in-told, in-yes}
 use Rattle.lists.proofs.Faults.{shaped, shape-few}
 use Rattle.lists.proofs.Voids.{bad, bad-field, ends-4, SoundRule, not-bad}
@@ -285,3 +292,15 @@ rule-edge-iff R h i = (
 pub edge-unread : (R : Rules) (h g : List ℕ) → ((f : ℕ) → f < fieldsOf R → getD h f 0 ≡ getD g f 0) → (i : ℕ) → ruleEdge R h i ≡ ruleEdge R g i
 unfolding ruleEdge
 edge-unread R h g agree i = rw (edge-same R h g agree i)
+
+-- ---- W8
+-- every contract and every statement speaks of a list through `listed`, which keeps the flags of the d fields alone: so this one equation
+-- says of every operation, also of those of the crates above, that it takes no notice of the others
+pub flags-past-d-unread : (s t : Shape) → s .d ≡ t .d → ((f : ℕ) → f < s .d → flagOf s f ≡ flagOf t f) → (l : List ℕ) → listed s l ≡ listed t l
+flags-past-d-unread = dates-same
+
+pub date-ends-before-high : (s : Shape) (l : List ℕ) (i f : ℕ) → f < s .d → flagOf s f ≡ true → endsAt (listed s l) i f ≡ highOf (listed s l) i f
+date-ends-before-high s l i f in-row flag = date-ends (listed s l) i f (date-flag s l f in-row ∙ flag)
+
+pub plain-ends-with-high : (d : ℕ) (l : List ℕ) (i f : ℕ) → endsAt (listed (shapeOf d) l) i f ≡ endOf (highOf (listed (shapeOf d) l) i f)
+plain-ends-with-high = ends-plain

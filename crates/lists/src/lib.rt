@@ -16,6 +16,6 @@
 pub mod check;
 pub mod edge;
 pub mod independence;
-mod range;
+pub mod range;
 pub mod scan;
 pub mod shape;

@@ -1,12 +1,12 @@
-// The shape of a list: how many fields a rule has, where its numbers stand, and the refusals of a list whose
-// shape is wrong.
+// The shape of a list: how many fields a rule has, which of them are dates, where its numbers stand, and the refusals of a
+// list whose shape is wrong.
 use ranges::refusal::BAD_FIELDS;
 use ranges::refusal::BAD_LENGTH;
 use ranges::refusal::Refusal;
 use ranges::refusal::TOO_MANY_RULES;
 use ranges::refusal::refuse;
 ghost use mathlib.Core.Path.{_≡_};
-ghost use Rattle.lists.specs.Rules.{shapeOf, listed, rulesIn, offsetOf};
+ghost use Rattle.lists.specs.Rules.{shapeOf, flagOf, listed, rulesIn, offsetOf};
 ghost use Rattle.lists.specs.Faults.{inList, shapeFault};
 
 // The most fields that a rule has.
@@ -18,16 +18,28 @@ pub const MOST_RULES: usize = 1024;
 // The most numbers that a list has.
 pub const MOST_NUMBERS: usize = MOST_RULES * MOST_FIELDS * 2;
 
-// What a list's numbers mean: the number of fields of a rule.
+// What a list's numbers mean: the number of fields of a rule, and the flags that say which fields are dates, bit f for field f.
+// Flags past d, and bits past the eighth, alter nothing.
 pub struct Shape {
     pub d: usize,
+    pub dates: u32,
 }
 
-// Makes the shape of a list of d fields a rule, whatever d is.
+// Makes the shape of a list of d fields a rule, whatever d is, none of them a date.
 pub fn shape_of(d: usize) -> Shape
     ensures { λ r. ⌜ r ≡ shapeOf d ⌝ }
 {
-    Shape { d }
+    Shape { d, dates: 0 }
+}
+
+// Says whether field f is a date: false from f = 8 on.
+pub fn is_date(shape: Shape, f: u32) -> bool
+    ensures { λ r. ⌜ r ≡ flagOf shape f ⌝ }
+{
+    if MOST_FIELDS <= f as usize {
+        return false;
+    }
+    (shape.dates >> f) % 2 == 1
 }
 
 // Says where in a list the low of field f of rule i stands, for rules of d fields; its high stands one further.

@@ -12,10 +12,10 @@ use lib.Dec.{T}
 use Rattle.ranges.specs.Numbers.{_and_, sameList, all, any, count, least, greatest, tab}
 use Rattle.ranges.specs.Refusals.{Said}
 use Rattle.ranges.specs.Spots.{spotOf}
-use Rattle.ranges.specs.Sides.{endOf, sideOf}
+use Rattle.ranges.specs.Sides.{endOf, pastOf, sideOf}
 use Rattle.ranges.specs.Prefixes.{prefixFault, boundsOf, saysBounds}
 use Rattle.ranges.specs.Blocks.{blockFits, blockOf, prefixesFrom, prefixesOf, flat}
-use Rattle.lists.specs.Rules.{rulesIn, offsetOf, lowOf, highOf, endsAt}
+use Rattle.lists.specs.Rules.{flagOf, datesIn, isDate, rulesIn, offsetOf, lowOf, highOf, endsAt}
 use Rattle.lists.specs.FirstMatch.{fits}
 use Rattle.lists.specs.Edges.{edgeOf}
 use Rattle.lists.specs.Faults.{shapeFault}
@@ -78,5 +78,5 @@ cases =
 
 -- the one statement: every row of the table holds, and in the table of no rules any header at all finds none, with 0 tests (B9)
 pub cases-hold : T (hold cases) × ((h : List ℕ) → lookupOf empty emptyTable h ≡ Nothing 0)
-unfolding cases all any count least greatest tab endOf spotOf sideOf rulesIn offsetOf lowOf highOf endsAt fits edgeOf shapeFault standingOf compare fitOf firstFit parts tableLength orderAt startAt fromAt toAt rowOf placeOf ruleAt startOf runFrom runTo tableOf opening openFault runStands stepAt arrivedOf walkFrom visitOf lookupFrom lookupOf prefixesOf prefixesFrom blockOf blockFits prefixFault
+unfolding cases all any count least greatest tab endOf pastOf flagOf datesIn isDate spotOf sideOf rulesIn offsetOf lowOf highOf endsAt fits edgeOf shapeFault standingOf compare fitOf firstFit parts tableLength orderAt startAt fromAt toAt rowOf placeOf ruleAt startOf runFrom runTo tableOf opening openFault runStands stepAt arrivedOf walkFrom visitOf lookupFrom lookupOf prefixesOf prefixesFrom blockOf blockFits prefixFault
 cases-hold = (tt, λ h. refl)

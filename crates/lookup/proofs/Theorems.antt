@@ -5,6 +5,7 @@
 --        (the contract)                   the lookup is `lookupOf`, for all lists, tables and headers, and it ends
 --        walk-enough                      a walk does not depend on how many tests it may make, once they are enough: it never ends for want of them
 --        returned-rule-fits               a rule returned is one of the list and fits the header, whatever the table
+--        other-flags-still-fit            so also over a table that was built under other flags: it fits under the lookup's
 --        edge-is-the-winners              the edge returned with it is that rule's own, whatever the table
 --        refusal-carries-nothing          a refusal carries no match, a count of 0 and no edge
 --        none-has-no-edge                 nor has an answer that no rule fits
@@ -28,7 +29,7 @@
 --        total-tests                      so at most the sum of these
 --        size-has-k                       every partition has such a k
 --        empty-list-costs-none            of no rules: none, and no test
---        bound-is-reached                 for every d and m a list and a header reach d + k
+--        bound-is-reached                 for every d, m and flags a list and a header reach d + k
 --
 -- The marked cases B1 to B12 are in `Cases.antt`; that two answers that a contract allows are equal is in `Determined.antt`.
 -- Assumes nothing.
@@ -42,7 +43,8 @@ use Rattle.ranges.specs.Refusals.{none, refused, BrokenTable}
 use Rattle.ranges.specs.declared.refusal.Refusal.{Refusal}
 use Rattle.ranges.specs.declared.refusal.Count.the-variants.{Is as CountIs}
 use Rattle.lists.specs.Limits.{mostRules}
-use Rattle.lists.specs.Rules.{Rules, fieldsOf, rulesIn}
+use Rattle.lists.specs.declared.shape.Shape.{Shape}
+use Rattle.lists.specs.Rules.{Rules, listed, fieldsOf, rulesIn}
 use Rattle.lists.specs.FirstMatch.{fits, firstMatch}
 use Rattle.lists.specs.Edges.{edgeOf}
 use Rattle.lists.specs.Faults.{listFault}
@@ -124,6 +126,11 @@ module _ (R : Rules) (T h : List ℕ) where
 pub numbers-past-d-unread : (R : Rules) (T h h′ : List ℕ) → Agree (fieldsOf R) h h′ → lookupOf R T h ≡ lookupOf R T h′
 numbers-past-d-unread = lookup-same
 
+-- a build under flags s leaves a table, and a lookup under flags t reads it: what it returns fits under t, all dates and others as t has them
+pub other-flags-still-fit : (s t : Shape) (l T h : List ℕ) (i n : ℕ) (e : Bool) → lookupOf (listed t l) (tableAfter (listed s l) T) h ≡ Rule i n e
+    → (i < rulesIn (listed t l)) × (fits (listed t l) h i ≡ true)
+other-flags-still-fit s t l T h = returned-rule-fits (listed t l) (tableAfter (listed s l) T) h
+
 -- ---- 2. the match is the first match
 -- the promise is all that the lookup layer relies on: whoever keeps it gets first match, however the table was made
 pub lookup-is-first-match : (R : Rules) (T : List ℕ) → Shaped R → TableFor (rulesIn R) (fieldsOf R) T → Promise R (viewOf R T) → (h : List ℕ)
@@ -203,23 +210,23 @@ module _ (R : Rules) (T h : List ℕ) where
 pub size-has-k : (m : ℕ) → 1 ≤ m → (k : ℕ) × PowerWithin m k
 size-has-k = power-within
 
--- a list of m rules of d fields, which the build accepts and puts into one partition, and a header whose lookup makes d + k tests
-pub record Reached (d m k : ℕ) : Type 0 where
-  pub accepted : listFault (ladder d m) ≡ none
-  pub rules : rulesIn (ladder d m) ≡ m
-  pub one-part : viewOf (ladder d m) (builtTable (ladder d m)) .b ≡ 1
-  pub of-all : viewOf (ladder d m) (builtTable (ladder d m)) .start 1 ≡ m
-  pub tests : lookupOf (ladder d m) (builtTable (ladder d m)) zeros ≡ Rule 0 (d + k) true
+-- a list of m rules of d fields, whatever the flags say, which the build accepts and puts into one partition, and a header whose lookup makes d + k tests
+pub record Reached (d dates m k : ℕ) : Type 0 where
+  pub accepted : listFault (ladder d dates m) ≡ none
+  pub rules : rulesIn (ladder d dates m) ≡ m
+  pub one-part : viewOf (ladder d dates m) (builtTable (ladder d dates m)) .b ≡ 1
+  pub of-all : viewOf (ladder d dates m) (builtTable (ladder d dates m)) .start 1 ≡ m
+  pub tests : lookupOf (ladder d dates m) (builtTable (ladder d dates m)) zeros ≡ Rule 0 (d + k) true
 
-pub bound-is-reached : (d m k : ℕ) → 1 ≤ d → d ≤ 8 → 1 ≤ m → m ≤ mostRules → PowerWithin m k → Reached d m k
-bound-is-reached d m k some few rules few-rules power =
-    let R = ladder d m in
+pub bound-is-reached : (d dates m k : ℕ) → 1 ≤ d → d ≤ 8 → 1 ≤ m → m ≤ mostRules → PowerWithin m k → Reached d dates m k
+bound-is-reached d dates m k some few rules few-rules power =
+    let R = ladder d dates m in
     let v = viewOf R (builtTable R) in
-    let one = ladder-parts d m some rules in
+    let one = ladder-parts d dates m some rules in
     record {
-      accepted = ladder-stands d m some few few-rules;
-      rules = ladder-rules d m some;
+      accepted = ladder-stands d dates m some few few-rules;
+      rules = ladder-rules d dates m some;
       one-part = one;
-      of-all = ap (v .start) (sym one) ∙ built-keeps-promise R (ladder-sound d m some) .last-start ∙ ladder-rules d m some;
-      tests = ladder-reaches d m k some few rules few-rules power;
+      of-all = ap (v .start) (sym one) ∙ built-keeps-promise R (ladder-sound d dates m some) .last-start ∙ ladder-rules d dates m some;
+      tests = ladder-reaches d dates m k some few rules few-rules power;
     }

@@ -4,7 +4,7 @@
 use Prim.Native.Nat.{ℕ, zero, suc, _+_, _*_, _/_, _%_, _^_, _≤_, _<_}
 use mathlib.Core.Bool.{Bool, true, false}
 use Rattle.ranges.specs.Numbers.{tab}
-use Rattle.lists.specs.Rules.{Rules, shapeOf, listed}
+use Rattle.lists.specs.Rules.{Rules, listed}
 use Rattle.lookup.specs.declared.walk.Walked.{Walked}
 use Rattle.lookup.specs.declared.walk.Walked.the-variants.{Ran, Broken}
 use Rattle.lookup.specs.declared.lookup.Looked.{Looked}
@@ -32,7 +32,8 @@ refuses (Rule i t e) = false
 refuses (Nothing t) = false
 refuses (Refused x) = true
 
--- m rules of d fields: rule i is 2i to 2i + 1 in every field, so every low stands at an even place and every high at an odd one
+-- m rules of d fields, with any flags: rule i is 2i to 2i + 1 in every field, so every low stands at an even place and every high at
+-- an odd one; of dates it holds 2i alone
 -- (of d = 2, m = 2: 0 1 0 1 2 3 2 3)
-abbrev pub ladder : ℕ → ℕ → Rules
-ladder d m = listed (shapeOf d) (tab (m * d * 2) (λ c. c / (d * 2) * 2 + c % 2))
+abbrev pub ladder : ℕ → ℕ → ℕ → Rules
+ladder d dates m = listed record { d = d; dates = dates } (tab (m * d * 2) (λ c. c / (d * 2) * 2 + c % 2))

@@ -1,11 +1,11 @@
 // The walk through one partition.
+use lists::range::field_range;
 use lists::scan::rule_fits;
 use lists::shape::Shape;
 use lists::shape::offset_of;
 use ranges::side::Range;
-use ranges::side::Side;
-use ranges::side::closed;
-use ranges::side::side_of;
+use ranges::side::is_below;
+use ranges::side::is_past;
 use tables::layout::from_at;
 use tables::layout::order_at;
 use tables::layout::to_at;
@@ -14,7 +14,6 @@ ghost use Prim.Native.Nat.{ℕ, _+_, _-_, _<_, _≤_};
 ghost use lib.ListN.{length, getD};
 ghost use Rattle.lists.specs.Rules.{listed, rangeAt};
 ghost use Rattle.lists.specs.Asked.{HasField};
-ghost use Rattle.lists.specs.FirstMatch.{sideAt};
 ghost use Rattle.tables.specs.Layout.{orderAt, orderIn, fromAt, toAt, view};
 ghost use Rattle.lookup.specs.Lent.{Ready, Group, Going};
 ghost use Rattle.lookup.specs.Walk.{runStands, stepOf, arrivedOf, walkFrom};
@@ -70,15 +69,7 @@ fn range_at(shape: Shape, list: &[u32], i: u16, f: u16) -> Range
     ensures { λ r. ⌜ r ≡ rangeAt (listed shape (now (list .entry))) i f ⌝ }
 {
     let at = offset_of(shape.d as u16, i, f);
-    closed(list[at], list[at + 1])
-}
-
-// Says on which side of rule i's range in field f the header's number lies.
-fn side_at(shape: Shape, list: &[u32], header: &[u32; 8], i: u16, f: u16) -> Side
-    requires { ⌜ HasField (listed shape (now list)) i f ⌝ }
-    ensures { λ r. ⌜ r ≡ sideAt (listed shape (now (list .entry))) (now (header .entry)) i f ⌝ }
-{
-    side_of(range_at(shape, list, i, f), header[f as usize])
+    field_range(shape, f as u32, list[at], list[at + 1])
 }
 
 // Says whether a run may be trusted: group start ≤ run-from ≤ mid < run-to ≤ group end.
@@ -124,15 +115,18 @@ fn one_step(
     if !run_stands(s, e, mid, from, to) {
         return Step::Broken;
     }
-    let side = side_at(shape, list, header, rule, f);
-    match side {
-        Side::Below => Step::On { s, e: from, f },
-        Side::Above => Step::On { s: to, e, f },
-        Side::Inside => Step::On {
-            s: from,
-            e: to,
-            f: f + 1,
-        },
+    let range = range_at(shape, list, rule, f);
+    let x = header[f as usize];
+    if is_below(range, x) {
+        return Step::On { s, e: from, f };
+    }
+    if is_past(range, x) {
+        return Step::On { s: to, e, f };
+    }
+    Step::On {
+        s: from,
+        e: to,
+        f: f + 1,
     }
 }
 
@@ -214,10 +208,14 @@ pub(crate) fn walk(
     requires { ⌜ Going n (shape .d) s e f tests ⌝ }
     ensures { λ r. ⌜ ((k : ℕ) → (e - s) + (shape .d - f) < k → r ≡ packed (walkFrom (listed shape (now (now (list .entry)))) (view n (shape .d) (now (now (table .entry)))) (now (header .entry)) k s e f tests)) ⌝ }
 {
+    // taken apart and made anew, so that a call is handed numbers and no local's place: so the recursion stays a loop
+    let d = shape.d;
+    let dates = shape.dates;
+    let shape = Shape { d, dates };
     if e <= s {
         return pack(Walked::Ran(Found::Miss, tests));
     }
-    if shape.d <= f as usize {
+    if d <= f as usize {
         return pack(arrive(shape, n, *list, *table, header, s, e, tests));
     }
     let step = one_step(shape, n, *list, *table, header, s, e, f);

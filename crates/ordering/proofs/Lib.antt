@@ -3,9 +3,11 @@
 -- Ordering: which of two rules comes first.
 -- Fields: how two rules stand to each other, as the code finds it.
 -- BothIn: two rules that a list has, and two that it has not.
+-- Theorems: what the order says where fields are dates.
 -- Determined: every contract allows one result alone.
 pub mod Comparing
 pub mod Ordering
 pub mod Fields
 pub mod BothIn
+pub mod Theorems
 pub mod Determined

@@ -12,7 +12,7 @@
 --     least-hit, least-under, least-upto, least-le    it passes; those under it fail; it is at most each that passes, and at most n
 --     greatest-holds                   the greatest passes, where one does, and is at least as great
 --     all-same, any-same, least-same, greatest-same   two tests that answer alike below n
---     tab-length, tab-at               the list of a function's values
+--     tab-length, tab-at               the list of a function's values; `tab-same`: of functions that agree; `tab-zero`: of one that is 0
 --     same-list-refl, same-list-equal  a list is the same as itself; two that are the same are equal
 --     same-list-is                     what a comparison answers
 -- Assumes nothing.
@@ -26,7 +26,7 @@ use native.Mathlib.Nat.{eq-or-lt-of-le, le-of-suc-le-suc}
 use native.Mathlib.Numerals.{add-one}
 use borrow.Author.Tests.{lt-ltb, le-ltb, ltb-true, ltb-false, eq-eqb, eqb-true}
 use lib.Dec.{ltb, eqb}
-use lib.ListN.{length, getD, length-append, List·getD-append}
+use lib.ListN.{length, getD, length-append, List·getD-append, List·getD-eq-default}
 use lib.Seq.{getD-at}
 use Rattle.ranges.specs.Numbers.{pick, _and_, _or_, bit, all, any, count, least, greatest, tab, sameList}
 
@@ -288,6 +288,20 @@ module _ (f : ℕ → ℕ) where
       (λ e. getD-at (tab n f) (f n) [] 0 k (tab-length n ∙ sym e) ∙ ap f (sym e))
       (λ l. let inside : k < length (tab n f) = rw (tab-length n) l in List·getD-append (tab n f) (f n ∷ []) 0 k inside ∙ tab-at n k l)
       (eq-or-lt-of-le (le-of-suc-le-suc lt))
+
+-- functions that agree below n have the same values there
+pub tab-same : {f g : ℕ → ℕ} (n : ℕ) → ((k : ℕ) → k < n → f k ≡ g k) → tab n f ≡ tab n g
+unfolding tab
+tab-same zero agree = refl
+tab-same {f} {g} (suc n) agree = rw (tab-same n (λ k lt. agree k (omega arith)), agree n (omega arith))
+
+-- zeros are zeros, and so is what is read past them
+pub tab-zero : {f : ℕ → ℕ} (n k : ℕ) → ((j : ℕ) → f j ≡ 0) → getD (tab n f) k 0 ≡ 0
+tab-zero {f} n k zeros = go (ltb k n) refl
+  where
+    go : (t : Bool) → ltb k n ≡ t → getD (tab n f) k 0 ≡ 0
+    go true e = tab-at f n k (ltb-true k n e) ∙ zeros k
+    go false e = List·getD-eq-default (tab n f) 0 (rw (tab-length f n) (ltb-false k n e))
 
 -- ---- the same list
 pub same-list-refl : (xs : List ℕ) → sameList xs xs ≡ true

@@ -1,6 +1,6 @@
 -- Laws of the first number past a range and of the range test (`specs/Sides.antt`).
 --     past-high, within-high, high-within       the code's tests on high, as facts on the first number past the range
---     past-date, past-other                     the first number past a rule's range, of dates or not
+--     past-date, past-other, past-near          the first number past a rule's range, of dates or not, and either way
 --     void-when                                 when a rule's range holds no number
 --     side-below, side-above, side-inside       which outcome a number has
 --     Lies, lies                                the three outcomes, with the facts that lead to each
@@ -44,6 +44,12 @@ past-date high = refl
 pub past-other : (high : ℕ) → pastOf false high ≡ endOf high
 unfolding pastOf
 past-other high = refl
+
+-- high or the number after it
+pub past-near : (date : Bool) (high : ℕ) → (high ≤ pastOf date high) × (pastOf date high ≤ high + 1)
+unfolding pastOf endOf
+past-near true high = (omega arith, omega arith)
+past-near false high = (omega arith, omega arith)
 
 -- a rule's range holds no number: of dates where high is at most low, else where it is less
 abbrev pub NoNumber : Bool → ℕ → ℕ → Type 0

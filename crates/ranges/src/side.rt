@@ -2,6 +2,7 @@
 use crate::spot::Spot;
 use crate::spot::spot_of;
 ghost use mathlib.Core.Path.{_≡_};
+ghost use lib.Dec.{ltb, leb};
 ghost use Rattle.ranges.specs.Sides.{closedAt, rangeOf, sideIn, sideOf, voidOf, meetOf};
 
 // On which side of a range a number lies, in the order in which the outcomes are tried.
@@ -60,6 +61,20 @@ pub fn side_of(range: Range, x: u32) -> Side
     ensures { λ r. ⌜ r ≡ sideOf (range .low) (range .past) x ⌝ }
 {
     side_in(spot_of(range, x))
+}
+
+// Says whether a number is below a range: less than its low.
+pub fn is_below(range: Range, x: u32) -> bool
+    ensures { λ r. ⌜ r ≡ ltb x (range .low) ⌝ }
+{
+    x < range.low
+}
+
+// Says whether a number is not before the first one past a range; where it is not below the range, it is above.
+pub fn is_past(range: Range, x: u32) -> bool
+    ensures { λ r. ⌜ r ≡ leb (range .past) x ⌝ }
+{
+    range.past <= x as u64
 }
 
 // Says whether a range holds no number.

@@ -140,9 +140,10 @@ module _ (r : RulesSoFar) (list table : List ℕ) where
         → Tabled r list table flaw (after ++ drop t table)
     unfolding tabledFlaw tabledAfter
     tabled-built some count room shape both =
+        let built = rw shape at both in
         record {
-          finds = rw (eq-eqb (flawNumber (r .flaw)) 0 fine, ne-eqb (r .lines) 0 some, ← count, ← room, ← shape) (both .0);
-          leaves = rw (eq-eqb (flawNumber (r .flaw)) 0 fine, ne-eqb (r .lines) 0 some, ← count, ← room, ← shape, both .1);
+          finds = rw (eq-eqb (flawNumber (r .flaw)) 0 fine, ne-eqb (r .lines) 0 some, ← count, ← room) (built .0);
+          leaves = rw (eq-eqb (flawNumber (r .flaw)) 0 fine, ne-eqb (r .lines) 0 some, ← count, ← room, built .1);
         }
 
 -- ---- the run keeps its length

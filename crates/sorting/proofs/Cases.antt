@@ -7,8 +7,8 @@ use Prim.Native.Nat.{ℕ}
 use mathlib.Core.List.{List, [], _∷_, _++_}
 use mathlib.Core.Path.{_≡_, refl, ap, _∙_, subst}
 use Rattle.ranges.specs.Numbers.{all, count, least, greatest, tab}
-use Rattle.ranges.specs.Sides.{endOf}
-use Rattle.lists.specs.Rules.{Rules, shapeOf, listed, rulesIn, offsetOf, lowOf, highOf, endsAt}
+use Rattle.ranges.specs.Sides.{endOf, pastOf}
+use Rattle.lists.specs.Rules.{Rules, shapeOf, flagOf, datesIn, listed, isDate, rulesIn, offsetOf, lowOf, highOf, endsAt}
 use Rattle.lists.specs.Faults.{shapeFault, badRule, endsFault, listFault}
 use Rattle.ranges.specs.Standings.{standingOf}
 use Rattle.ordering.specs.Order.{compare}
@@ -45,11 +45,11 @@ abbrev pub benchChoice : List ℕ
 benchChoice = 0 ∷ 0 ∷ 0 ∷ 1 ∷ 2 ∷ []
 
 pub bench-choice : firstFit bench (rulesIn bench) ≡ benchChoice
-unfolding rulesIn firstFit fitOf all least compare standingOf endOf lowOf highOf endsAt offsetOf
+unfolding rulesIn firstFit fitOf all least tab compare standingOf endOf pastOf flagOf datesIn isDate lowOf highOf endsAt offsetOf
 bench-choice = refl
 
 bench-table : tableOf bench benchChoice ≡ benchTable
-unfolding tableOf rulesIn parts ruleAt placeOf startOf runFrom runTo count least greatest tab compare standingOf endOf lowOf highOf endsAt offsetOf
+unfolding tableOf rulesIn parts ruleAt placeOf startOf runFrom runTo count least greatest tab compare standingOf endOf pastOf flagOf datesIn isDate lowOf highOf endsAt offsetOf
 bench-table = refl
 
 -- ---- the tables
@@ -62,7 +62,7 @@ b9 = refl
 
 -- ---- they keep the promise: neither list meets one of 1 to 4
 bench-stands : listFault bench .number ≡ 0
-unfolding shapeFault endsFault badRule rulesIn all least endOf lowOf highOf endsAt offsetOf
+unfolding shapeFault endsFault badRule rulesIn all least tab endOf pastOf flagOf datesIn isDate lowOf highOf endsAt offsetOf
 bench-stands = refl
 
 empty-stands : listFault empty .number ≡ 0

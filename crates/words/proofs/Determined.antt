@@ -46,33 +46,33 @@ table-ends-one κs a x y e g p q = p ∙ sym q
 pub call-check-one : OneAnswer 2 call-check-kinds.ps call-check-kinds.r call-check.Learnt
 call-check-one κs a x y e g p q = place-one (p .puts) (q .puts)
 
-pub call-check-bytes-one : OneRun 2 call-check-kinds.ps call-check-kinds.r call-check.Learnt (λ κs e. now (e .1 .0))
+pub call-check-bytes-one : OneRun 2 call-check-kinds.ps call-check-kinds.r call-check.Learnt (λ κs e. now (e .1 .1 .0))
 call-check-bytes-one κs a x y e g p q = bytes-one (p .puts) (q .puts)
 
 pub call-scan-one : OneAnswer 2 call-scan-kinds.ps call-scan-kinds.r call-scan.Learnt
 call-scan-one κs a x y e g p q = place-one (p .puts) (q .puts)
 
-pub call-scan-bytes-one : OneRun 2 call-scan-kinds.ps call-scan-kinds.r call-scan.Learnt (λ κs e. now (e .1 .0))
+pub call-scan-bytes-one : OneRun 2 call-scan-kinds.ps call-scan-kinds.r call-scan.Learnt (λ κs e. now (e .1 .1 .0))
 call-scan-bytes-one κs a x y e g p q = bytes-one (p .puts) (q .puts)
 
 pub call-independent-one : OneAnswer 2 call-independent-kinds.ps call-independent-kinds.r call-independent.Learnt
 call-independent-one κs a x y e g p q = place-one (p .puts) (q .puts)
 
-pub call-independent-bytes-one : OneRun 2 call-independent-kinds.ps call-independent-kinds.r call-independent.Learnt (λ κs e. now (e .1 .0))
+pub call-independent-bytes-one : OneRun 2 call-independent-kinds.ps call-independent-kinds.r call-independent.Learnt (λ κs e. now (e .1 .1 .0))
 call-independent-bytes-one κs a x y e g p q = bytes-one (p .puts) (q .puts)
 
 -- ---- table_words
 pub call-table-one : OneAnswer 2 call-table-kinds.ps call-table-kinds.r call-table.Learnt
 call-table-one κs a x y e g p q = place-one (p .puts) (q .puts)
 
-pub call-table-bytes-one : OneRun 2 call-table-kinds.ps call-table-kinds.r call-table.Learnt (λ κs e. now (e .1 .1 .0))
+pub call-table-bytes-one : OneRun 2 call-table-kinds.ps call-table-kinds.r call-table.Learnt (λ κs e. now (e .1 .1 .1 .0))
 call-table-bytes-one κs a x y e g p q = bytes-one (p .puts) (q .puts)
 
 -- ---- prefix_words
 pub call-side-one : OneAnswer 2 call-side-kinds.ps call-side-kinds.r call-side.Learnt
 call-side-one κs a x y e g p q = place-one (p .puts) (q .puts)
 
-pub call-side-bytes-one : OneRun 2 call-side-kinds.ps call-side-kinds.r call-side.Learnt (λ κs e. now (e .1 .0))
+pub call-side-bytes-one : OneRun 2 call-side-kinds.ps call-side-kinds.r call-side.Learnt (λ κs e. now (e .1 .1 .0))
 call-side-bytes-one κs a x y e g p q = bytes-one (p .puts) (q .puts)
 
 pub call-p2r-one : OneAnswer 2 call-p2r-kinds.ps call-p2r-kinds.r call-p2r.Learnt

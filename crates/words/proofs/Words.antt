@@ -9,7 +9,7 @@ use borrow.Author.Tests.{le-leb, lt-leb, eq-eqb, ne-eqb, leb-true, ltb-false}
 use lib.Dec.{ltb, leb, eqb}
 use Rattle.ranges.specs.Numbers.{pick, _and_}
 use Rattle.ranges.specs.Refusals.{none, refusedAt, stands, TooLittleRoom}
-use Rattle.ranges.proofs.Numbers.{never}
+use Rattle.ranges.proofs.Numbers.{never, and-fails}
 use Rattle.ranges.proofs.Passes.{written-length}
 use lib.ListN.{length, getD, take, drop, length-append, length-take, length-drop}
 use borrow.Rule.Slice.PartMut.{putMid}
@@ -59,10 +59,6 @@ run-long w low high run = go (stands (rangeFault w low high)) (stands (roomFault
     go true false p q = rw (p, q)
     go false t p q = rw (p, p)
 
-and-false : (s : Bool) → s and false ≡ false
-and-false true = refl
-and-false false = refl
-
 -- whether the numbers are as the word wants them
 module _ (ns : List ℕ) where
   pub r2p-short : length ns < 4 → r2pStands ns ≡ false
@@ -91,7 +87,7 @@ module _ (ns : List ℕ) where
           let few = leb-true (getD ns 3 0) runMost e in
           let enough : 4 ≤ length ns = omega arith in
           rw (le-leb 4 (length ns) enough, e, ne-eqb (length ns) (4 + getD ns 3 0) (λ same. omega arith))
-      go false e = rw e (and-false (leb 4 (length ns)))
+      go false e = rw e (and-fails (leb 4 (length ns)) false refl)
 
 -- what is answered and left, way by way
 module _ (ns : List ℕ) where

@@ -10,7 +10,7 @@ use lib.Dec.{ltb, leb, eqb}
 use Rattle.ranges.specs.Numbers.{pick, all}
 use Rattle.lists.specs.declared.shape.Shape.{Shape}
 use Rattle.lists.specs.Headers.{headerLength}
-use Rattle.lists.specs.Rules.{Rules, shapeOf, listed}
+use Rattle.lists.specs.Rules.{Rules, listed}
 use Rattle.words.specs.Limits.{listMost, tableMost}
 use Rattle.words.specs.declared.part.End.{End}
 use Rattle.words.specs.declared.part.End.the-variants.{At, Missing}
@@ -66,12 +66,12 @@ abbrev pub onEnds : Ends → (ℕ → ℕ → List ℕ) → List ℕ → List �
 onEnds (Both e t) next other = next e t
 onEnds Neither next other = other
 
--- D, and the list with it
-abbrev pub shapeIn : List ℕ → Shape
-shapeIn ns = shapeOf (getD ns 0 0)
+-- D with the flags that came with it, and the list
+abbrev pub shapeIn : ℕ → List ℕ → Shape
+shapeIn dates ns = record { d = getD ns 0 0; dates = dates }
 
-abbrev pub rulesTo : ℕ → List ℕ → Rules
-rulesTo e ns = listed (shapeIn ns) (fromTo 2 e ns)
+abbrev pub rulesTo : ℕ → ℕ → List ℕ → Rules
+rulesTo dates e ns = listed (shapeIn dates ns) (fromTo 2 e ns)
 
 -- HEADER, from a place on
 abbrev pub headerAt : ℕ → List ℕ → List ℕ

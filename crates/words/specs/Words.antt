@@ -1,4 +1,4 @@
--- What each word answers, given the line's numbers after it, and what r2p leaves of them. LIST, TABLE and RUN are a length and then
+-- What each word answers, given the flags of its D and the line's numbers after it, and what r2p leaves of them. LIST, TABLE and RUN are a length and then
 -- that many numbers. Where the numbers are not as the word wants them, the answer is bad.
 -- Assumes nothing: these are definitions.
 use Prim.Native.Nat.{ℕ, _+_}
@@ -8,7 +8,7 @@ use lib.ListN.{length, getD, take, drop}
 use lib.Dec.{leb, eqb}
 use Rattle.ranges.specs.Numbers.{pick, _and_}
 use Rattle.ranges.specs.Spots.{spotOf}
-use Rattle.ranges.specs.Sides.{endOf}
+use Rattle.ranges.specs.Sides.{pastOf}
 use Rattle.ranges.specs.Prefixes.{boundsOf}
 use Rattle.ranges.specs.Blocks.{expandOf, runAfter}
 use Rattle.lists.specs.Headers.{headerLength}
@@ -18,11 +18,11 @@ use Rattle.lists.specs.Independence.{independenceOf}
 use Rattle.sorting.specs.Build.{buildOf, tableAfter, auditOf}
 use Rattle.tables.specs.Report.{reportOf}
 use Rattle.lookup.specs.Lookup.{lookupOf}
-use Rattle.lists.specs.Rules.{Rules}
+use Rattle.lists.specs.Rules.{Rules, flagOf}
 use Rattle.text.specs.Texts.{bytes}
 use Rattle.words.specs.Limits.{runMost}
 use Rattle.phrases.specs.Said.{allSpaced, countSaid, boundsSaid, matchSaid, pairSaid, foundSaid, spotSaid, verdictSaid, partSaid}
-use Rattle.words.specs.Parts.{fromTo, listEnd, onEnd, tableEnds, onEnds, rulesTo, headerAt}
+use Rattle.words.specs.Parts.{fromTo, listEnd, onEnd, tableEnds, onEnds, shapeIn, rulesTo, headerAt}
 use Rattle.words.specs.declared.table_words.TableWord.{TableWord}
 use Rattle.words.specs.declared.table_words.TableWord.the-variants.{Build, Lookup, Audit, Report}
 
@@ -31,16 +31,16 @@ abbrev pub badSaid : List ℕ
 badSaid = bytes "bad"
 
 -- check D LIST
-abbrev pub checkSaid : List ℕ → List ℕ
-checkSaid ns = onEnd (listEnd ns 0) (λ e. countSaid (checkOf (rulesTo e ns))) badSaid
+abbrev pub checkSaid : ℕ → List ℕ → List ℕ
+checkSaid dates ns = onEnd (listEnd ns 0) (λ e. countSaid (checkOf (rulesTo dates e ns))) badSaid
 
 -- scan D LIST HEADER
-abbrev pub scanSaid : List ℕ → List ℕ
-scanSaid ns = onEnd (listEnd ns headerLength) (λ e. matchSaid (scanOf (rulesTo e ns) (headerAt e ns))) badSaid
+abbrev pub scanSaid : ℕ → List ℕ → List ℕ
+scanSaid dates ns = onEnd (listEnd ns headerLength) (λ e. matchSaid (scanOf (rulesTo dates e ns) (headerAt e ns))) badSaid
 
 -- independent D LIST
-abbrev pub independentSaid : List ℕ → List ℕ
-independentSaid ns = onEnd (listEnd ns 0) (λ e. pairSaid (independenceOf (rulesTo e ns))) badSaid
+abbrev pub independentSaid : ℕ → List ℕ → List ℕ
+independentSaid dates ns = onEnd (listEnd ns 0) (λ e. pairSaid (independenceOf (rulesTo dates e ns))) badSaid
 
 -- ---- build D LIST TABLE, lookup D LIST TABLE HEADER, audit D LIST TABLE, report D LIST TABLE P
 -- how many numbers follow the table
@@ -70,16 +70,19 @@ tableSaid Lookup R T rest = lookupSaid R T rest
 tableSaid Audit R T rest = auditSaid R T
 tableSaid Report R T rest = reportSaid R T (getD rest 0 0)
 
-abbrev pub tabledSaid : TableWord → List ℕ → List ℕ
-tabledSaid word ns =
+abbrev pub tabledSaid : TableWord → ℕ → List ℕ → List ℕ
+tabledSaid word dates ns =
     onEnds (tableEnds ns (following word))
-    (λ e t. tableSaid word (rulesTo e ns) (fromTo (e + 1) t ns) (fromTo t (t + following word) ns))
+    (λ e t. tableSaid word (rulesTo dates e ns) (fromTo (e + 1) t ns) (fromTo t (t + following word) ns))
     badSaid
 
 -- ---- side D FIELD LOW HIGH NUMBER
--- the range is low to high, both counted; D and FIELD alter nothing
-unfoldable pub sideSaid : List ℕ → List ℕ
-sideSaid ns = pick (eqb (length ns) 5) (spotSaid (spotOf (getD ns 2 0) (endOf (getD ns 3 0)) (getD ns 4 0))) badSaid
+-- the range is that of a rule in FIELD, one of dates where its flag says so, whatever D is
+abbrev pub sideEnd : ℕ → List ℕ → ℕ
+sideEnd dates ns = pastOf (flagOf (shapeIn dates ns) (getD ns 1 0)) (getD ns 3 0)
+
+unfoldable pub sideSaid : ℕ → List ℕ → List ℕ
+sideSaid dates ns = pick (eqb (length ns) 5) (spotSaid (spotOf (getD ns 2 0) (sideEnd dates ns) (getD ns 4 0))) badSaid
 
 -- ---- p2r VALUE LENGTH WIDTH
 unfoldable pub p2rSaid : List ℕ → List ℕ

@@ -3,7 +3,6 @@
 use crate::limits::LIST_MOST;
 use crate::limits::TABLE_MOST;
 use lists::shape::Shape;
-use lists::shape::shape_of;
 ghost use mathlib.Core.Bool.{true};
 ghost use mathlib.Core.Path.{_≡_};
 ghost use Prim.Native.Nat.{_<_};
@@ -109,12 +108,15 @@ pub(crate) fn narrow(numbers: &[u32], table: &mut [u16])
     }
 }
 
-// Gives the shape of D.
-pub(crate) fn shape_in(given: &[u32]) -> Shape
+// Gives the shape of D with its flags.
+pub(crate) fn shape_in(dates: u32, given: &[u32]) -> Shape
     requires { ⌜ 0 < length (now given) ⌝ }
-    ensures { λ r. ⌜ r ≡ shapeIn (now (given .entry)) ⌝ }
+    ensures { λ r. ⌜ r ≡ shapeIn dates (now (given .entry)) ⌝ }
 {
-    shape_of(given[0] as usize)
+    Shape {
+        d: given[0] as usize,
+        dates,
+    }
 }
 
 // Gives the eight numbers of HEADER by value.

@@ -1,5 +1,7 @@
 // The calls of ranges and prefixes. `given` holds the line's numbers after the word.
 use crate::limits::RUN_MOST;
+use crate::part::shape_in;
+use lists::range::field_range;
 use phrases::say::put_all;
 use phrases::say::put_bad;
 use phrases::say::put_bounds;
@@ -7,7 +9,6 @@ use phrases::say::put_count;
 use phrases::say::put_spot;
 use ranges::expand::range_to_prefixes;
 use ranges::prefix::prefix_to_range;
-use ranges::side::closed;
 use ranges::spot::spot_of;
 use text::put::put_text;
 ghost use Prim.Native.Nat.{_+_, _-_, _*_};
@@ -18,15 +19,16 @@ ghost use Rattle.words.specs.Limits.{answerMost};
 ghost use Rattle.phrases.specs.Few.{PutFew};
 ghost use Rattle.words.specs.Words.{sideSaid, p2rSaid, expandedSaid, r2pSaid, r2pLeft};
 
-// side D FIELD LOW HIGH NUMBER: puts where the number lies as against the ends of low to high. D and FIELD alter nothing:
-// they tell a date's range from another's (02, W8).
-pub fn call_side(given: &[u32], out: &mut [u8], at: usize) -> usize
-    ensures { λ r. ⌜ PutFew 70 (now (out .entry)) at (sideSaid (now (given .entry))) (now (out .exit)) r ⌝ }
+// side D FIELD LOW HIGH NUMBER: puts where the number lies as against the ends of the range that a rule with this low and
+// high has in the field, which is one of dates where D's flag says so, whatever D is.
+pub fn call_side(dates: u32, given: &[u32], out: &mut [u8], at: usize) -> usize
+    ensures { λ r. ⌜ PutFew 70 (now (out .entry)) at (sideSaid dates (now (given .entry))) (now (out .exit)) r ⌝ }
 {
     if given.len() != 5 {
         return put_bad(out, at);
     }
-    let spot = spot_of(closed(given[2], given[3]), given[4]);
+    let range = field_range(shape_in(dates, given), given[1], given[2], given[3]);
+    let spot = spot_of(range, given[4]);
     put_spot(spot, out, at)
 }
 

@@ -1,4 +1,5 @@
-// The calls of a list and a table. `given` holds the line's numbers after the word: D LIST TABLE, and what follows.
+// The calls of a list and a table. `given` holds the line's numbers after the word: D LIST TABLE, and what follows; `dates`
+// are the flags of D.
 use crate::limits::TABLE_MOST;
 use crate::part::Ends;
 use crate::part::header_of;
@@ -142,8 +143,8 @@ fn put_tabled(
 }
 
 // Puts what a call of a list and a table answers.
-pub fn call_table(word: TableWord, given: &[u32], out: &mut [u8], at: usize) -> usize
-    ensures { λ r. ⌜ PutFew (answerMost - 1) (now (out .entry)) at (tabledSaid word (now (given .entry))) (now (out .exit)) r ⌝ }
+pub fn call_table(word: TableWord, dates: u32, given: &[u32], out: &mut [u8], at: usize) -> usize
+    ensures { λ r. ⌜ PutFew (answerMost - 1) (now (out .entry)) at (tabledSaid word dates (now (given .entry))) (now (out .exit)) r ⌝ }
 {
     let more = numbers_after(word);
     let ends = table_ends(given, more);
@@ -154,7 +155,7 @@ pub fn call_table(word: TableWord, given: &[u32], out: &mut [u8], at: usize) -> 
     let last = t + more;
     put_tabled(
         word,
-        shape_in(given),
+        shape_in(dates, given),
         &given[2..e],
         &given[from..t],
         &given[t..last],

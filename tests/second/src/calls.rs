@@ -9,8 +9,12 @@
 //!
 //! Numbers. Plain decimal digits without leading zeros ("0" itself stands), 0 to 4294967295; a number of a TABLE is
 //! 0 to 65535. LIST, TABLE and RUN are a length and then exactly that many numbers; the length is at most 16500 for
-//! a LIST, 18500 for a TABLE, 200 for a RUN. HEADER is eight numbers. Each of D, P, FIELD, NUMBER, VALUE, LENGTH,
-//! WIDTH, LOW and HIGH is any number. After the last part nothing may follow.
+//! a LIST, 18500 for a TABLE, 200 for a RUN. HEADER is eight numbers. Each of P, FIELD, NUMBER, VALUE, LENGTH, WIDTH,
+//! LOW and HIGH is any number. After the last part nothing may follow.
+//!
+//! Dates. D is any number, and no field is a date; or it is D:FFFFFFFF, any number, a colon, and eight flags, each 0 or
+//! 1, the first for field 0: which fields are dates. The flags from d on alter nothing, but `side` takes the flag of
+//! FIELD whatever D is, and none from FIELD 8 on. A colon anywhere else is a fault.
 //!
 //!     check D LIST                 ok N
 //!     scan D LIST HEADER           ok RULE | ok none
@@ -29,7 +33,7 @@
 //! or run of no numbers answers with the bare word " table" or " run". An answer neither starts nor ends in a blank.
 
 use crate::decimal::number_of;
-use crate::lists::{check, independence, scan, Header};
+use crate::lists::{check, independence, scan, Header, Shape};
 use crate::lookup::lookup;
 use crate::prefixes::{prefix_to_range, range_to_prefixes};
 use crate::ranges::{spot_of, Range, Spot};
@@ -53,6 +57,15 @@ impl<'a> Words<'a> {
 
     fn number(&mut self) -> Option<u32> {
         number_of(self.rest.next()?)
+    }
+
+    /// D alone, or D, a colon and eight flags.
+    fn shape(&mut self) -> Option<Shape> {
+        let word = self.rest.next()?;
+        match word.iter().position(|byte| *byte == b':') {
+            None => Some(Shape::from(number_of(word)?)),
+            Some(at) => Some(Shape { d: number_of(&word[..at])?, dates: flags_of(&word[at + 1..])? }),
+        }
     }
 
     /// A length of at most `most`, and that many numbers.
@@ -89,6 +102,17 @@ impl<'a> Words<'a> {
     }
 }
 
+/// Reads eight flags, each 0 or 1, or none where the bytes are others, fewer or more.
+fn flags_of(bytes: &[u8]) -> Option<[bool; 8]> {
+    let flag = |byte: &u8| match *byte {
+        b'0' => Some(false),
+        b'1' => Some(true),
+        _ => None,
+    };
+    let flags: Vec<bool> = bytes.iter().map(flag).collect::<Option<Vec<bool>>>()?;
+    flags.try_into().ok()
+}
+
 fn refused(refusal: Refusal) -> String {
     format!("refused {} {} {}", refusal.number, refusal.first, refusal.second)
 }
@@ -119,60 +143,61 @@ fn lent<T: ToString>(word: &str, numbers: &[T]) -> String {
 }
 
 fn call_check(words: &mut Words) -> Option<String> {
-    let (d, list) = (words.number()?, words.list()?);
+    let (shape, list) = (words.shape()?, words.list()?);
     words.end()?;
-    Some(said(check(d, &list), |n| n.to_string()))
+    Some(said(check(shape, &list), |n| n.to_string()))
 }
 
 fn call_scan(words: &mut Words) -> Option<String> {
-    let (d, list, header) = (words.number()?, words.list()?, words.header()?);
+    let (shape, list, header) = (words.shape()?, words.list()?, words.header()?);
     words.end()?;
-    Some(said(scan(d, &list, &header), rule_or_none))
+    Some(said(scan(shape, &list, &header), rule_or_none))
 }
 
 fn call_build(words: &mut Words) -> Option<String> {
-    let (d, list, mut table) = (words.number()?, words.list()?, words.table()?);
+    let (shape, list, mut table) = (words.shape()?, words.list()?, words.table()?);
     words.end()?;
-    let answer = said(build(d, &list, &mut table), |b| b.to_string());
+    let answer = said(build(shape, &list, &mut table), |b| b.to_string());
     Some(answer + &lent("table", &table))
 }
 
 fn call_lookup(words: &mut Words) -> Option<String> {
-    let (d, list, table, header) = (words.number()?, words.list()?, words.table()?, words.header()?);
+    let (shape, list, table, header) = (words.shape()?, words.list()?, words.table()?, words.header()?);
     words.end()?;
-    Some(said(lookup(d, &list, &table, &header), |looked| {
+    Some(said(lookup(shape, &list, &table, &header), |looked| {
         let edge = if looked.edge { "edge" } else { "plain" };
         format!("{} {} {}", rule_or_none(looked.rule), looked.tests, edge)
     }))
 }
 
 fn call_audit(words: &mut Words) -> Option<String> {
-    let (d, list, table) = (words.number()?, words.list()?, words.table()?);
+    let (shape, list, table) = (words.shape()?, words.list()?, words.table()?);
     words.end()?;
-    Some(said(audit(d, &list, &table), |same| String::from(if same { "yes" } else { "no" })))
+    Some(said(audit(shape, &list, &table), |same| String::from(if same { "yes" } else { "no" })))
 }
 
 fn call_report(words: &mut Words) -> Option<String> {
-    let (d, list, table, p) = (words.number()?, words.list()?, words.table()?, words.number()?);
+    let (shape, list, table, p) = (words.shape()?, words.list()?, words.table()?, words.number()?);
     words.end()?;
-    Some(said(report(d, &list, &table, p), |(size, smallest)| format!("{} {}", size, smallest)))
+    Some(said(report(shape, &list, &table, p), |(size, smallest)| format!("{} {}", size, smallest)))
 }
 
 fn call_independent(words: &mut Words) -> Option<String> {
-    let (d, list) = (words.number()?, words.list()?);
+    let (shape, list) = (words.shape()?, words.list()?);
     words.end()?;
-    Some(said(independence(d, &list), |pair| match pair {
+    Some(said(independence(shape, &list), |pair| match pair {
         None => String::from("yes"),
         Some((i, j)) => format!("no {} {}", i, j),
     }))
 }
 
-/// D and FIELD tell a date from another field (02, W8), and alter nothing yet.
+/// D's flag of FIELD tells a date from another field; D itself alters nothing.
 fn call_side(words: &mut Words) -> Option<String> {
-    let (_, _) = (words.number()?, words.number()?);
+    let (shape, field) = (words.shape()?, words.number()?);
     let (low, high, number) = (words.number()?, words.number()?, words.number()?);
     words.end()?;
-    Some(String::from(match spot_of(Range { low, high }, number) {
+    let date = shape.is_date(field as usize);
+    Some(String::from(match spot_of(Range { low, high, date }, number) {
         Spot::Below => "ok below",
         Spot::Low => "ok low",
         Spot::Between => "ok between",

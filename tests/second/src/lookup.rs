@@ -1,7 +1,7 @@
 //! 01, The walk: the lookup of a header in a table, as the paper's loop; 02, W2: whether the winner is at an edge.
 
-use crate::lists::{fits, Header, Rule};
-use crate::ranges::{side_of, Side};
+use crate::lists::{fits, Header, Rule, Shape};
+use crate::ranges::{high_end, side_of, Side};
 use crate::refusal::{refuse, Refusal};
 use crate::table::{open, Table};
 
@@ -58,15 +58,15 @@ pub struct Looked {
     pub edge: bool,
 }
 
-/// Of a rule that fits: some field's number is the low or the high of its range. The numbers past d are not read.
+/// Of a rule that fits: some field's number is at the low or the high end. The numbers past d are not read.
 fn at_edge(rule: &Rule, header: &Header) -> bool {
-    rule.iter().zip(header).any(|(range, number)| range.low == *number || range.high == *number)
+    rule.iter().zip(header).any(|(range, number)| range.low == *number || high_end(*range) == *number)
 }
 
 /// Answers the smallest candidate of all partitions, or none, and the sum of the tests; or 1, 2, 3, 5, 6. A candidate that
-/// lost has no say in the edge, and where there is none there is no edge.
-pub fn lookup(d: u32, list: &[u32], table: &[u16], header: &Header) -> Result<Looked, Refusal> {
-    let (rules, table) = open(d, list, table)?;
+/// lost has no say in the edge, and where there is none there is no edge. The flags may be others than the build's.
+pub fn lookup(shape: Shape, list: &[u32], table: &[u16], header: &Header) -> Result<Looked, Refusal> {
+    let (rules, table) = open(shape, list, table)?;
     let mut candidates = Vec::new();
     let mut tests = 0;
     for k in 0..table.b() {

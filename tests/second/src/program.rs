@@ -1,10 +1,11 @@
 //! 01, The program: what is printed for the bytes of rules.csv and of headers.csv.
 //!
 //! Reading 7 throughout: a line ends at CRLF and nowhere else, so a lone CR or LF is a bad character of its cell;
-//! what follows the last CRLF, if anything, is a last line; an empty line has one empty cell and is bad.
+//! what follows the last CRLF, if anything, is a last line; an empty line has one empty cell and is bad. No field is a
+//! date here (02, W8).
 
 use crate::decimal::number_of;
-use crate::lists::{check, Header};
+use crate::lists::{check, Header, Shape};
 use crate::lookup::lookup;
 use crate::table::{build, table_length};
 
@@ -57,7 +58,7 @@ fn rules_of_file(file: &[u8]) -> Result<(u32, Vec<u32>), u32> {
         list.extend(cells);
     }
     // an empty file: d is 0, and the check answers 1; the only other refusal left to it is 4
-    match check(d as u32, &list) {
+    match check(Shape::from(d as u32), &list) {
         Ok(_) => Ok((d as u32, list)),
         Err(refusal) => Err(refusal.number),
     }
@@ -81,14 +82,14 @@ pub fn printed(rules: &[u8], headers: &[u8]) -> String {
         Err(number) => return format!("refused,{}\r\n", number),
     };
     let n = list.len() / (2 * d as usize);
-    let mut table = vec![0; table_length(n, d as usize)];
-    build(d, &list, &mut table).expect("the list was checked");
+    let (shape, mut table) = (Shape::from(d), vec![0; table_length(n, d as usize)]);
+    build(shape, &list, &mut table).expect("the list was checked");
     let mut out = String::from("rule,tests\r\n");
     for line in lines_of(headers) {
         match header_of_line(line, d) {
             None => out += "refused,8\r\n",
             Some(header) => {
-                let looked = lookup(d, &list, &table, &header).expect("the table is built");
+                let looked = lookup(shape, &list, &table, &header).expect("the table is built");
                 match looked.rule {
                     Some(rule) => out += &format!("{},{}\r\n", rule, looked.tests),
                     None => out += &format!("none,{}\r\n", looked.tests),

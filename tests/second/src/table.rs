@@ -1,6 +1,6 @@
 //! 01, The working table: what the build writes, the audit, what a table's opening needs, and the report.
 
-use crate::lists::{checked_rules_of, rules_of, Rule};
+use crate::lists::{checked_rules_of, rules_of, Rule, Shape};
 use crate::refusal::{refuse, Refusal};
 use crate::sorting::{ascending, first_fit};
 
@@ -41,23 +41,23 @@ pub fn table_of(rules: &[Rule], d: usize) -> Vec<u16> {
 }
 
 /// Writes the table and answers the number of partitions, or 1, 2, 3, 4, 5.
-pub fn build(d: u32, list: &[u32], table: &mut [u16]) -> Result<usize, Refusal> {
-    let rules = checked_rules_of(d, list)?;
-    if table.len() != table_length(rules.len(), d as usize) {
+pub fn build(shape: Shape, list: &[u32], table: &mut [u16]) -> Result<usize, Refusal> {
+    let (rules, d) = (checked_rules_of(shape, list)?, shape.d as usize);
+    if table.len() != table_length(rules.len(), d) {
         return Err(refuse(5));
     }
-    table.copy_from_slice(&table_of(&rules, d as usize));
+    table.copy_from_slice(&table_of(&rules, d));
     Ok(table[2] as usize)
 }
 
 /// Answers whether every number of the table is what the build would write, or 1, 2, 3, 4, 5.
 /// Reading 4: a wrong n or d in the table is a plain no.
-pub fn audit(d: u32, list: &[u32], table: &[u16]) -> Result<bool, Refusal> {
-    let rules = checked_rules_of(d, list)?;
-    if table.len() != table_length(rules.len(), d as usize) {
+pub fn audit(shape: Shape, list: &[u32], table: &[u16]) -> Result<bool, Refusal> {
+    let (rules, d) = (checked_rules_of(shape, list)?, shape.d as usize);
+    if table.len() != table_length(rules.len(), d) {
         return Err(refuse(5));
     }
-    Ok(table == table_of(&rules, d as usize))
+    Ok(table == table_of(&rules, d))
 }
 
 /// A lent table of the right length, read part by part.
@@ -107,9 +107,9 @@ impl Table<'_> {
 
 /// Takes the list's rules and the table, or answers 1, 2, 3, 5, and 6 for the opening.
 /// Reading 3: b ≤ n is tested before start b is read, so with n > 0 a b of 0 is 6.
-pub fn open<'a>(d: u32, list: &[u32], table: &'a [u16]) -> Result<(Vec<Rule>, Table<'a>), Refusal> {
-    let rules = rules_of(d, list)?;
-    let (n, d) = (rules.len(), d as usize);
+pub fn open<'a>(shape: Shape, list: &[u32], table: &'a [u16]) -> Result<(Vec<Rule>, Table<'a>), Refusal> {
+    let rules = rules_of(shape, list)?;
+    let (n, d) = (rules.len(), shape.d as usize);
     if table.len() != table_length(n, d) {
         return Err(refuse(5));
     }
@@ -125,9 +125,9 @@ pub fn open<'a>(d: u32, list: &[u32], table: &'a [u16]) -> Result<(Vec<Rule>, Ta
 }
 
 /// Answers a partition's size and smallest rule number, or 1, 2, 3, 5, 6 for the opening, 7, 6 for the partition.
-/// Reading 5: with n = 0 and a fine opening every partition number is 7.
-pub fn report(d: u32, list: &[u32], table: &[u16], k: u32) -> Result<(usize, usize), Refusal> {
-    let (_, table) = open(d, list, table)?;
+/// Reading 5: with n = 0 and a fine opening every partition number is 7. No range is read, so the flags alter nothing.
+pub fn report(shape: Shape, list: &[u32], table: &[u16], k: u32) -> Result<(usize, usize), Refusal> {
+    let (_, table) = open(shape, list, table)?;
     let k = k as usize;
     if k >= table.b() {
         return Err(refuse(7));

@@ -1,6 +1,8 @@
-//! Drawn lists of many characters, headers drawn near their ends, and ways to spoil a list.
+//! Drawn lists of many characters, flags that make some of their fields dates, headers drawn near their ends, and ways
+//! to spoil a list.
 
-use super::shapes::TOP;
+use super::shapes::{ODD_FIELDS, TOP};
+use crate::lists::Shape;
 use crate::seed::Seed;
 
 type Ends = [u32; 2];
@@ -137,8 +139,8 @@ pub fn list_of(seed: &mut Seed, n: usize, d: u32) -> Vec<u32> {
     }
 }
 
-/// d and a list: mostly up to a dozen rules, now and then up to a hundred.
-pub fn drawn_list(seed: &mut Seed) -> (u32, Vec<u32>) {
+/// d and how many rules: mostly up to a dozen, now and then up to a hundred.
+fn drawn_size(seed: &mut Seed) -> (u32, usize) {
     let d = seed.pick(&[1, 1, 2, 2, 2, 3, 3, 4, 5, 5, 5, 6, 7, 8]);
     let n = match seed.below(20) {
         0..=4 => seed.below(4),
@@ -146,7 +148,76 @@ pub fn drawn_list(seed: &mut Seed) -> (u32, Vec<u32>) {
         17 | 18 => seed.below(41),
         _ => seed.below(101),
     };
+    (d, n)
+}
+
+/// d and a list without dates.
+pub fn drawn_list(seed: &mut Seed) -> (u32, Vec<u32>) {
+    let (d, n) = drawn_size(seed);
     (d, list_of(seed, n, d))
+}
+
+/// d fields with drawn flags: none, all, or each drawn; those past d, which alter nothing, none or each drawn.
+pub fn drawn_shape(seed: &mut Seed, d: u32) -> Shape {
+    let (choice, past) = (seed.below(5), seed.once_in(3));
+    let mut shape = Shape::from(d);
+    for f in 0..8 {
+        let drawn = seed.once_in(2);
+        shape.dates[f] = match choice {
+            _ if f >= d as usize => past && drawn,
+            0 | 1 => false,
+            2 => true,
+            _ => drawn,
+        };
+    }
+    shape
+}
+
+/// A range as one of dates, of one day at least: with the numbers it had, as far as a date can end past them, or with its
+/// ends.
+fn dates_of(ends: Ends, same_numbers: bool) -> Ends {
+    let [low, high] = ends;
+    if low == TOP {
+        return [TOP - 1, TOP];
+    }
+    if same_numbers || low == high {
+        return [low, high.saturating_add(1)];
+    }
+    ends
+}
+
+/// Rules in any order, each of which ends where another begins, in all fields; now and then the last ends at the top.
+fn chain(seed: &mut Seed, n: usize, d: u32) -> Vec<u32> {
+    let mut ends = vec![seed.between(0, 5)];
+    for i in 0..n {
+        ends.push(ends[i] + seed.between(1, 3));
+    }
+    let up = if seed.once_in(4) { TOP - ends[n] } else { 0 };
+    let mut numbers: Vec<usize> = (0..n).collect();
+    seed.shuffle(&mut numbers);
+    numbers.iter().flat_map(|i| [ends[*i] + up, ends[i + 1] + up].repeat(d as usize)).collect()
+}
+
+/// n rules of a drawn character, which a check under this shape does not refuse.
+pub fn list_for(seed: &mut Seed, n: usize, shape: Shape) -> Vec<u32> {
+    if seed.once_in(12) {
+        return chain(seed, n, shape.d);
+    }
+    let same_numbers = seed.once_in(2);
+    let mut list = list_of(seed, n, shape.d);
+    for (i, ends) in list.chunks_mut(2).enumerate() {
+        if shape.is_date(i % shape.d as usize) {
+            ends.copy_from_slice(&dates_of([ends[0], ends[1]], same_numbers));
+        }
+    }
+    list
+}
+
+/// A shape and a list of it; none, some or all of the fields are dates.
+pub fn dated_list(seed: &mut Seed) -> (Shape, Vec<u32>) {
+    let (d, n) = drawn_size(seed);
+    let shape = drawn_shape(seed, d);
+    (shape, list_for(seed, n, shape))
 }
 
 /// A number of a range, its ends more often than not.
@@ -168,13 +239,27 @@ fn near(seed: &mut Seed, low: u32, high: u32) -> u32 {
     }
 }
 
+/// A number inside a range where it is to hit, else near it. Of dates the last day is the high end, and now and then
+/// the number is 4294967295, which lies in none.
+fn drawn_number(seed: &mut Seed, [low, high]: Ends, date: bool, hit: bool) -> u32 {
+    let high = high.saturating_sub(date as u32);
+    if hit {
+        return inside(seed, low, high);
+    }
+    if date && seed.once_in(8) {
+        return TOP;
+    }
+    near(seed, low, high)
+}
+
 /// A header of the list: one in two inside a rule, else near one or several. Its numbers past d are any.
-pub fn drawn_header(seed: &mut Seed, d: u32, list: &[u32]) -> [u32; 8] {
+pub fn drawn_header(seed: &mut Seed, shape: impl Into<Shape>, list: &[u32]) -> [u32; 8] {
+    let shape = shape.into();
     let mut header = [0; 8];
     for number in &mut header {
         *number = seed.any();
     }
-    let d = d.min(8) as usize;
+    let d = shape.d.min(8) as usize;
     if d == 0 || list.len() < 2 * d {
         return header;
     }
@@ -182,8 +267,8 @@ pub fn drawn_header(seed: &mut Seed, d: u32, list: &[u32]) -> [u32; 8] {
     let hit = seed.once_in(2);
     let mut rule = seed.below(n);
     for f in 0..d {
-        let (low, high) = (list[2 * d * rule + 2 * f], list[2 * d * rule + 2 * f + 1]);
-        header[f] = if hit { inside(seed, low, high) } else { near(seed, low, high) };
+        let at = 2 * d * rule + 2 * f;
+        header[f] = drawn_number(seed, [list[at], list[at + 1]], shape.is_date(f), hit);
         if !hit && seed.once_in(6) {
             rule = seed.below(n);
         }
@@ -191,25 +276,32 @@ pub fn drawn_header(seed: &mut Seed, d: u32, list: &[u32]) -> [u32; 8] {
     header
 }
 
-/// Turns the ends of some ranges around, so that low > high where they differ.
+/// Turns the ends of some ranges around, so that low > high where they differ, or makes the low or 0 the high, which
+/// leaves no day to a date.
 pub fn turned(seed: &mut Seed, list: &mut [u32]) {
     let ranges = list.len() / 2;
     for _ in 0..1 + seed.below(3) {
         if ranges > 0 {
-            let at = seed.below(ranges);
-            list.swap(2 * at, 2 * at + 1);
+            let at = 2 * seed.below(ranges);
+            match seed.below(6) {
+                0 | 1 => list[at + 1] = list[at],
+                2 => list[at + 1] = 0,
+                _ => list.swap(at, at + 1),
+            }
         }
     }
 }
 
-/// Spoils d, the list's length, its number of rules, or the ends of some ranges.
-pub fn spoiled_list(seed: &mut Seed, d: &mut u32, list: &mut Vec<u32>) {
-    match seed.below(8) {
-        0 => *d = seed.pick(&super::shapes::ODD_FIELDS),
-        1 => *d = seed.between(1, 8),
+/// Spoils d, the list's length, its number of rules, the flags, or the ends of some ranges.
+pub fn spoiled_list(seed: &mut Seed, shape: &mut Shape, list: &mut Vec<u32>) {
+    let per_rule = 2 * shape.d as usize;
+    match seed.below(9) {
+        0 => shape.d = seed.pick(&ODD_FIELDS),
+        1 => shape.d = seed.between(1, 8),
         2 => drop(list.pop()),
         3 => list.push(seed.any()),
-        4 => list.resize(2 * *d as usize * 1024 + seed.below(2 * *d as usize + 1), 7),
+        4 => list.resize(1024 * per_rule + seed.below(per_rule + 1), 7),
+        5 => *shape = drawn_shape(seed, shape.d),
         _ => turned(seed, list),
     }
 }

@@ -1,6 +1,6 @@
 //! Lines of the `calls` protocol, written from a call's parts.
 
-use crate::lists::Header;
+use crate::lists::{Header, Shape};
 
 /// A length, and that many numbers.
 pub fn counted<T: ToString>(numbers: &[T]) -> String {
@@ -18,10 +18,13 @@ fn bare(header: &Header) -> String {
     words.join(" ")
 }
 
-/// The lines of a kind, in the order in which they are written; bytes, since a faulty line may hold any.
+/// The lines of a kind, in the order in which they are written; bytes, since a faulty line may hold any. Where d alone is
+/// given for a shape, no field is a date.
 #[derive(Default)]
 pub struct Lines {
     pub lines: Vec<Vec<u8>>,
+    /// Whether eight zeros are written behind a D of which no flag is set.
+    pub zeros: bool,
 }
 
 impl Lines {
@@ -33,36 +36,46 @@ impl Lines {
         self.lines.push(line.into_bytes());
     }
 
-    pub fn check(&mut self, d: u32, list: &[u32]) {
-        self.say(format!("check {} {}", d, counted(list)));
+    /// D, and its flags where one is set.
+    fn spelled(&self, shape: impl Into<Shape>) -> String {
+        let Shape { d, dates } = shape.into();
+        if dates == [false; 8] && !self.zeros {
+            return d.to_string();
+        }
+        let flags: String = dates.iter().map(|date| if *date { '1' } else { '0' }).collect();
+        format!("{}:{}", d, flags)
     }
 
-    pub fn scan(&mut self, d: u32, list: &[u32], header: &Header) {
-        self.say(format!("scan {} {} {}", d, counted(list), bare(header)));
+    pub fn check(&mut self, shape: impl Into<Shape>, list: &[u32]) {
+        self.say(format!("check {} {}", self.spelled(shape), counted(list)));
     }
 
-    pub fn build(&mut self, d: u32, list: &[u32], table: &[u16]) {
-        self.say(format!("build {} {} {}", d, counted(list), counted(table)));
+    pub fn scan(&mut self, shape: impl Into<Shape>, list: &[u32], header: &Header) {
+        self.say(format!("scan {} {} {}", self.spelled(shape), counted(list), bare(header)));
     }
 
-    pub fn lookup(&mut self, d: u32, list: &[u32], table: &[u16], header: &Header) {
-        self.say(format!("lookup {} {} {} {}", d, counted(list), counted(table), bare(header)));
+    pub fn build(&mut self, shape: impl Into<Shape>, list: &[u32], table: &[u16]) {
+        self.say(format!("build {} {} {}", self.spelled(shape), counted(list), counted(table)));
     }
 
-    pub fn audit(&mut self, d: u32, list: &[u32], table: &[u16]) {
-        self.say(format!("audit {} {} {}", d, counted(list), counted(table)));
+    pub fn lookup(&mut self, shape: impl Into<Shape>, list: &[u32], table: &[u16], header: &Header) {
+        self.say(format!("lookup {} {} {} {}", self.spelled(shape), counted(list), counted(table), bare(header)));
     }
 
-    pub fn report(&mut self, d: u32, list: &[u32], table: &[u16], p: u32) {
-        self.say(format!("report {} {} {} {}", d, counted(list), counted(table), p));
+    pub fn audit(&mut self, shape: impl Into<Shape>, list: &[u32], table: &[u16]) {
+        self.say(format!("audit {} {} {}", self.spelled(shape), counted(list), counted(table)));
     }
 
-    pub fn independent(&mut self, d: u32, list: &[u32]) {
-        self.say(format!("independent {} {}", d, counted(list)));
+    pub fn report(&mut self, shape: impl Into<Shape>, list: &[u32], table: &[u16], p: u32) {
+        self.say(format!("report {} {} {} {}", self.spelled(shape), counted(list), counted(table), p));
     }
 
-    pub fn side(&mut self, d: u32, field: u32, low: u32, high: u32, number: u32) {
-        self.say(format!("side {} {} {} {} {}", d, field, low, high, number));
+    pub fn independent(&mut self, shape: impl Into<Shape>, list: &[u32]) {
+        self.say(format!("independent {} {}", self.spelled(shape), counted(list)));
+    }
+
+    pub fn side(&mut self, shape: impl Into<Shape>, field: u32, low: u32, high: u32, number: u32) {
+        self.say(format!("side {} {} {} {} {}", self.spelled(shape), field, low, high, number));
     }
 
     pub fn p2r(&mut self, value: u32, length: u32, width: u32) {

@@ -1,20 +1,22 @@
 //! Cases of layer 4: the lookup, mostly over tables that are not what the build writes.
 
-use super::characters::{drawn_header, drawn_list, spoiled_list, turned};
+use super::characters::{dated_list, drawn_header, drawn_shape, spoiled_list, turned};
 use super::lines::Lines;
 use super::shapes::{
-    all_headers, altered, built, grid, header_of, nested, permutations, reversed, stairs, twins, BENCH, ODD_FIELDS, TOP,
+    all_headers, altered, as_dates, built, chain, dated, grid, header_of, nested, permutations, reversed, stairs,
+    twins, ALL, BENCH, ODD_FIELDS, TOP,
 };
 use super::tables::{damage, looks_right};
-use crate::lists::Header;
+use crate::lists::{Header, Shape};
 use crate::seed::Seed;
 
 /// The headers of B2 to B8.
 pub const MARKED: [[u32; 2]; 7] = [[7, 250], [7, 100], [7, 150], [8, 5], [9, 5], [10, 0], [7, 1000]];
 
 /// Looks a header up in the table that the build writes.
-pub fn look(out: &mut Lines, d: u32, list: &[u32], header: &Header) {
-    out.lookup(d, list, &built(d, list), header);
+pub fn look(out: &mut Lines, shape: impl Into<Shape>, list: &[u32], header: &Header) {
+    let shape = shape.into();
+    out.lookup(shape, list, &built(shape, list), header);
 }
 
 /// B2 to B9, with other numbers past d too.
@@ -106,6 +108,85 @@ fn edge_fields(out: &mut Lines) {
     }
 }
 
+/// 02, W8: the same of dates, whose high end is the day before high; in a field that is a date, and in one that is
+/// none; flags past d alter nothing; one day is at both ends.
+fn edge_dates(out: &mut Lines) {
+    for d in 1..=8 {
+        let list = [10, 20].repeat(d as usize);
+        for f in 0..8 {
+            for number in [10, 18, 19, 20] {
+                let mut header = [15; 8];
+                header[f as usize] = number;
+                look(out, dated(d, 1 << f), &list, &header);
+            }
+            let mut header = [15; 8];
+            header[f as usize] = 19;
+            look(out, dated(d, ALL - (1 << f)), &list, &header);
+        }
+        for header in [[15; 8], [16; 8]] {
+            look(out, dated(d, ALL), &[&list[2..], &[15, 16]].concat(), &header);
+        }
+    }
+}
+
+/// 02, W8: dates that touch, met on each day; a header that is due in its last field alone; the bench list with dates
+/// that end one later; dates at the ends of 32 bits.
+fn dates(out: &mut Lines) {
+    for d in 1..=3 {
+        for flags in [1, ALL] {
+            let shape = dated(d, flags);
+            for number in 0..=6 {
+                look(out, shape, &chain(5, d), &[number; 8]);
+            }
+            let mut header = [2; 8];
+            header[d as usize - 1] = 3;
+            look(out, shape, &chain(5, d), &header);
+        }
+    }
+    for flags in 1..=3 {
+        let shape = dated(2, flags);
+        let list = as_dates(shape, &BENCH);
+        for numbers in MARKED.iter().chain(&[[10, 999], [9, 1000], [8, 101]]) {
+            look(out, shape, &list, &header_of(numbers, TOP));
+        }
+    }
+    let list = [0, TOP, TOP - 1, TOP, 0, 1, 1, TOP - 1, 2147483647, 2147483648];
+    for number in [0, 1, 2147483647, 2147483648, TOP - 2, TOP - 1, TOP] {
+        look(out, dated(1, 1), &list, &header_of(&[number], 0));
+    }
+}
+
+/// A table of two rules on two fields, in which place 1's run of field 0 reaches back over place 0: the walk at 1, 0 ends
+/// at place 0, whose field 0 it never tested.
+pub const WIDE_RUN: [u16; 16] = [2, 2, 1, 0, 1, 0, 2, 0, 0, 0, 0, 1, 1, 1, 2, 2];
+
+/// 02, W8: a date that is due in a field which the confirming comparison alone reads; and the day before.
+fn confirmed_dates(out: &mut Lines) {
+    for flags in 0..4 {
+        for high in [1, 2] {
+            out.lookup(dated(2, flags), &[0, high, 0, 1, 1, 2, 5, 6], &WIDE_RUN, &header_of(&[1], 0));
+        }
+    }
+}
+
+/// 02, W8: flags other than the build's: the walk goes by the lookup's, and a rule that is returned fits under them.
+fn other_flags(out: &mut Lines) {
+    for list in [[1, 5, 5, 9, 0, 9], [5, 9, 1, 5, 5, 6], [5, 6, 6, 7, 7, 8]] {
+        for (built_as, looked_as) in [(1, 0), (0, 1)] {
+            let table = built(dated(1, built_as), &list);
+            for number in 4..=9 {
+                out.lookup(dated(1, looked_as), &list, &table, &header_of(&[number], 0));
+            }
+        }
+    }
+    let list = chain(4, 2);
+    for flags in 0..16 {
+        for header in [[2, 2], [2, 3], [3, 2]] {
+            out.lookup(dated(2, flags % 4), &list, &built(dated(2, flags / 4), &list), &header_of(&header, 0));
+        }
+    }
+}
+
 /// The winner's edge, and not a loser's: between its ends where a later rule is at one, and the other way round; each way
 /// with the winner in a later partition too.
 fn edge_of_the_winner(out: &mut Lines) {
@@ -119,22 +200,24 @@ fn edge_of_the_winner(out: &mut Lines) {
 
 /// Every single number of small tables altered, under all headers of a small space.
 fn altered_tables(out: &mut Lines) {
-    let mut all = |d: u32, list: &[u32], headers: &[Header]| {
-        for table in altered(&built(d, list), list.len() / (2 * d as usize)) {
+    let mut all = |shape: Shape, list: &[u32], headers: &[Header]| {
+        for table in altered(&built(shape, list), list.len() / (2 * shape.d as usize)) {
             for header in headers {
-                out.lookup(d, list, &table, header);
+                out.lookup(shape, list, &table, header);
             }
         }
     };
-    all(1, &[], &[[0; 8]]);
-    all(1, &[1, 2], &all_headers(1, 3));
-    all(1, &[1, 5, 3, 3], &all_headers(1, 6));
-    all(1, &[1, 1, 3, 3, 5, 5], &all_headers(1, 6));
-    all(1, &[2, 3, 0, 1, 1, 2], &all_headers(1, 4));
-    all(2, &[1, 1, 1, 1, 1, 1, 3, 3, 3, 3, 2, 2], &all_headers(2, 3));
-    all(2, &[0, 1, 0, 1, 1, 1, 1, 1], &all_headers(2, 2));
-    all(3, &[1, 1, 0, 0, 0, 0, 1, 1, 0, 0, 1, 1], &all_headers(3, 1));
-    all(2, &BENCH, &MARKED.map(|numbers| header_of(&numbers, 0)));
+    let (one, two) = (Shape::from(1), Shape::from(2));
+    all(one, &[], &[[0; 8]]);
+    all(one, &[1, 2], &all_headers(1, 3));
+    all(one, &[1, 5, 3, 3], &all_headers(1, 6));
+    all(dated(1, ALL - 1), &[1, 1, 3, 3, 5, 5], &all_headers(1, 6));
+    all(dated(1, 1), &[3, 5, 1, 3, 5, 6], &all_headers(1, 6));
+    all(one, &[2, 3, 0, 1, 1, 2], &all_headers(1, 4));
+    all(two, &[1, 1, 1, 1, 1, 1, 3, 3, 3, 3, 2, 2], &all_headers(2, 3));
+    all(dated(2, 2), &[0, 1, 0, 2, 1, 1, 1, 2], &all_headers(2, 2));
+    all(Shape::from(3), &[1, 1, 0, 0, 0, 0, 1, 1, 0, 0, 1, 1], &all_headers(3, 1));
+    all(two, &BENCH, &MARKED.map(|numbers| header_of(&numbers, 0)));
 }
 
 /// Reading 3: all b and starts of 0 to 3 for two rules on one field.
@@ -190,29 +273,45 @@ fn low_above_high(out: &mut Lines) {
     }
 }
 
+/// 02, W8: lists with dates of no day, 5-5 and 7-0, under tables that look right: a number less than low is below, else
+/// it is above. Never 4.
+fn dates_of_no_day(out: &mut Lines) {
+    for number in (0..=8).chain([TOP - 1, TOP]) {
+        let header = header_of(&[number, number], 0);
+        for void in [[5, 5], [7, 0], [0, 0], [TOP, TOP]] {
+            out.lookup(dated(1, 1), &void, &[1, 1, 1, 0, 0, 1, 0, 1], &header);
+        }
+        out.lookup(dated(1, 1), &[4, 5, 5, 5, 5, 9], &built(1, &stairs(3, 1)), &header);
+        out.lookup(dated(1, ALL - 1), &[4, 5, 5, 5, 5, 9], &built(1, &stairs(3, 1)), &header);
+        out.lookup(dated(1, 1), &[0, 7, 7, 0, 7, TOP], &built(1, &stairs(3, 1)), &header);
+        out.lookup(dated(2, 2), &[0, 9, 5, 5, 0, 9, 5, 6], &built(2, &[0, 9, 2, 6, 0, 9, 7, 8]), &header);
+    }
+}
+
 /// 1, 2, 3, 5, 6 in this order.
 fn refusals(out: &mut Lines) {
-    let mut at_zero = |d: u32, list: &[u32], table: &[u16]| out.lookup(d, list, table, &[0; 8]);
+    let mut at_zero = |shape: Shape, list: &[u32], table: &[u16]| out.lookup(shape, list, table, &[0; 8]);
     for d in ODD_FIELDS {
-        at_zero(d, &[], &[0, d as u16, 0, 0]);
-        at_zero(d, &[9, 7, 7], &[]);
+        at_zero(Shape::from(d), &[], &[0, d as u16, 0, 0]);
+        at_zero(dated(d, ALL), &[9, 7, 7], &[]);
     }
     for d in 1..=8 {
+        let shape = if d % 2 == 0 { Shape::from(d) } else { dated(d, ALL) };
         let list = stairs(2, d);
-        let right = built(d, &list);
-        at_zero(d, &list, &right);
-        at_zero(d, &list, &right[..right.len() - 1]);
-        at_zero(d, &list, &[&right[..], &[0]].concat());
-        at_zero(d, &list, &[]);
-        at_zero(d, &list[1..], &right);
-        at_zero(d, &[&list[..], &[7]].concat(), &right);
+        let right = built(shape, &list);
+        at_zero(shape, &list, &right);
+        at_zero(shape, &list, &right[..right.len() - 1]);
+        at_zero(shape, &list, &[&right[..], &[0]].concat());
+        at_zero(shape, &list, &[]);
+        at_zero(shape, &list[1..], &right);
+        at_zero(shape, &[&list[..], &[7]].concat(), &right);
         // 5 before 6: short, and n wrong
-        at_zero(d, &list, &[&[9], &right[1..right.len() - 1]].concat());
+        at_zero(shape, &list, &[&[9], &right[1..right.len() - 1]].concat());
     }
-    at_zero(1, &twins(1025, 1), &[]);
+    at_zero(dated(1, 1), &twins(1025, 1), &[]);
     let mut long = twins(1025, 1);
     long.push(7);
-    at_zero(1, &long, &[]);
+    at_zero(Shape::from(1), &long, &[]);
 }
 
 /// 1,024 rules: one partition of them, and 1,024 partitions.
@@ -222,7 +321,7 @@ fn many_rules(out: &mut Lines) {
         look(out, 1, &list, &[number; 8]);
     }
     look(out, 1, &twins(1024, 1), &[7; 8]);
-    look(out, 8, &stairs(1024, 8), &[0; 8]);
+    look(out, dated(8, ALL), &stairs(1024, 8), &[0; 8]);
 }
 
 pub fn edges(out: &mut Lines) {
@@ -233,45 +332,51 @@ pub fn edges(out: &mut Lines) {
     ends(out);
     edge_fields(out);
     edge_of_the_winner(out);
+    edge_dates(out);
+    dates(out);
+    confirmed_dates(out);
+    other_flags(out);
     altered_tables(out);
     all_starts(out);
     all_runs(out);
     unsorted(out);
     low_above_high(out);
+    dates_of_no_day(out);
     refusals(out);
     many_rules(out);
 }
 
-/// A few drawn lookups on one drawn list: over its table, damaged, under a list with ends turned around, and over a
-/// table that was never built; last with a wrong length.
+/// A few drawn lookups on one drawn list: over its table, under other flags, damaged, under a list with ends turned
+/// around, and over a table that was never built; last with a wrong length.
 pub fn drawn(seed: &mut Seed, out: &mut Lines) {
-    let (d, list) = drawn_list(seed);
-    let n = list.len() / (2 * d as usize);
-    let table = built(d, &list);
-    for _ in 0..3 {
-        out.lookup(d, &list, &table, &drawn_header(seed, d, &list));
+    let (shape, list) = dated_list(seed);
+    let n = list.len() / (2 * shape.d as usize);
+    let table = built(shape, &list);
+    let other_shape = drawn_shape(seed, shape.d);
+    for shape in [shape, shape, shape, other_shape] {
+        out.lookup(shape, &list, &table, &drawn_header(seed, shape, &list));
     }
-    for _ in 0..4 {
+    for _ in 0..3 {
         let mut damaged = table.clone();
         damage(seed, &mut damaged, n);
-        out.lookup(d, &list, &damaged, &drawn_header(seed, d, &list));
+        out.lookup(shape, &list, &damaged, &drawn_header(seed, shape, &list));
     }
     let mut other = list.clone();
     turned(seed, &mut other);
     for _ in 0..2 {
-        out.lookup(d, &other, &table, &drawn_header(seed, d, &other));
+        out.lookup(shape, &other, &table, &drawn_header(seed, shape, &other));
     }
     for _ in 0..3 {
-        let never_built = looks_right(seed, n, d as usize);
-        let header = drawn_header(seed, d, &list);
-        out.lookup(d, &list, &never_built, &header);
-        out.lookup(d, &other, &never_built, &header);
+        let never_built = looks_right(seed, n, shape.d as usize);
+        let header = drawn_header(seed, shape, &list);
+        out.lookup(shape, &list, &never_built, &header);
+        out.lookup(shape, &other, &never_built, &header);
     }
-    let (mut d, mut list, mut table) = (d, list, table);
+    let (mut shape, mut list, mut table) = (shape, list, table);
     match seed.below(4) {
         0 => drop(table.pop()),
         1 => table.push(0),
-        _ => spoiled_list(seed, &mut d, &mut list),
+        _ => spoiled_list(seed, &mut shape, &mut list),
     }
-    out.lookup(d, &list, &table, &[7; 8]);
+    out.lookup(shape, &list, &table, &[7; 8]);
 }

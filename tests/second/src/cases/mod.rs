@@ -4,9 +4,9 @@
 pub mod characters;
 pub mod lines;
 mod lists;
-mod lookup;
+pub mod lookup;
 mod prefixes;
-mod protocol;
+pub mod protocol;
 mod random;
 mod ranges;
 pub mod shapes;
@@ -55,6 +55,7 @@ pub fn drawn(kind: &str, seed: u64, count: usize) -> Option<Lines> {
     let mut out = Lines::default();
     let mut seed = Seed::new(seed);
     while out.lines.len() < count {
+        out.zeros = seed.once_in(4);
         draw(&mut seed, &mut out);
     }
     out.lines.truncate(count);

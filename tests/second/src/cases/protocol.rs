@@ -17,6 +17,52 @@ pub const GOOD: [&str; 10] = [
     "r2p 16 23 5 3 9 9 9",
 ];
 
+/// 02, W8: lines with dates, and their answers as they were worked out by hand.
+pub const WORKED: [(&str, &str); 6] = [
+    ("build 1:10000000 4 1 5 5 9 12 0 0 0 0 0 0 0 0 0 0 0 0", "ok 1 table 2 1 1 0 1 0 2 0 0 1 1 2"),
+    ("check 1:10000000 2 5 5", "refused 4 0 0"),
+    ("check 1:01111111 2 5 5", "ok 1"),
+    ("independent 1:10000000 4 1 5 5 9", "ok yes"),
+    ("side 1:10000000 0 5 6 5", "ok both"),
+    ("side 1:10000000 0 0 0 0", "ok above"),
+];
+
+/// D with eight flags: of any number, and each flag 0 or 1.
+pub const SHAPES: [&str; 6] =
+    ["1:00000000", "1:10000000", "2:01111111", "8:11111111", "0:10101010", "4294967295:00000001"];
+
+/// Words that are no D: flags fewer, more, none or others; no number in front; a second colon, and one elsewhere.
+pub const NO_SHAPE: [&str; 28] = [
+    ":",
+    "1:",
+    "1:0",
+    "1:1",
+    "1:0000000",
+    "1:000000000",
+    "1:0000000010000000",
+    "1:00000002",
+    "1:20000000",
+    "1:0000000/",
+    "1:0000000a",
+    "1:0000000-",
+    "1:+1000000",
+    "1:0000,000",
+    "1:10000000\r",
+    "1:10000000\t",
+    "1:10000000\0",
+    ":00000000",
+    ":10000000",
+    "00000000",
+    "01:00000000",
+    "+1:00000000",
+    "x:00000000",
+    "4294967296:00000000",
+    "1::00000000",
+    "1:00000000:",
+    "1:0000:0000",
+    "1;00000000",
+];
+
 /// Words that are no number.
 const NO_NUMBER: [&str; 16] = [
     "00",
@@ -66,6 +112,40 @@ fn faults_of(out: &mut Lines, line: &str) {
     out.raw(line.to_uppercase().as_bytes());
     out.raw(line.replacen(' ', "\t", 1).as_bytes());
     out.raw(line.as_bytes());
+}
+
+/// 02, W8: D with flags, well written and not, in every line, and after each a line that must have none of its flags; a
+/// colon in every other word.
+fn shapes(out: &mut Lines) {
+    for (line, _) in WORKED {
+        faults_of(out, line);
+    }
+    for line in GOOD {
+        for word in SHAPES.iter().chain(&NO_SHAPE) {
+            out.raw(replaced(line, 1, word).as_bytes());
+            out.raw(b"check 1 2 5 5");
+        }
+        let words: Vec<&str> = line.split(' ').collect();
+        for i in (0..words.len()).filter(|i| *i != 1) {
+            out.raw(replaced(line, i, &format!("{}:00000000", words[i])).as_bytes());
+            out.raw(replaced(line, i, &format!("{}:", words[i])).as_bytes());
+            out.raw(replaced(line, i, &format!(":{}", words[i])).as_bytes());
+        }
+        out.raw(line.replacen(" ", " :", 1).as_bytes());
+        out.raw(line.replacen(" ", ":", 1).as_bytes());
+        out.raw(replaced(line, 1, "1 :00000000").as_bytes());
+        out.raw(replaced(line, 1, "1: 00000000").as_bytes());
+        out.raw(replaced(line, 1, "1:0000 0000").as_bytes());
+    }
+    // more flags than eight, also as many as are eight when they are counted in 8 or 16 bits; many digits of d
+    for length in [9, 16, 24, 32, 33, 40, 64, 256, 264, 65536, 65544] {
+        out.raw(format!("check 1:{} 2 5 5", "1".repeat(length)).as_bytes());
+        out.raw(b"check 1:11111110 2 5 5");
+    }
+    for length in [9, 10, 11, 40, 264] {
+        out.raw(format!("check {}:11111111 2 5 5", "1".repeat(length)).as_bytes());
+        out.raw(b"check 1:00000000 2 5 5");
+    }
 }
 
 /// First words that are none.
@@ -128,16 +208,21 @@ pub fn edges(out: &mut Lines) {
     for line in GOOD {
         faults_of(out, line);
     }
+    shapes(out);
     unknown_words(out);
     limits(out);
     long_lines(out);
 }
 
-/// A good line with up to three bytes changed, taken away or put in.
+/// A good line, now and then with flags, with up to three bytes changed, taken away or put in.
 pub fn drawn(seed: &mut Seed, out: &mut Lines) {
-    let mut line = seed.pick(&GOOD).as_bytes().to_vec();
+    let mut line = String::from(seed.pick(&GOOD));
+    if seed.once_in(3) {
+        line = replaced(&line, 1, seed.pick(&SHAPES));
+    }
+    let mut line = line.into_bytes();
     for _ in 0..seed.below(4) {
-        let byte = seed.pick(b"0123456789 x\r-");
+        let byte = seed.pick(b"0011223456789 x\r-:");
         let at = seed.below(line.len());
         match seed.below(3) {
             0 => line[at] = byte,

@@ -1,6 +1,6 @@
 //! Lists, tables and headers that several kinds of cases are made from, none of them drawn.
 
-use crate::lists::{rules_of, Header};
+use crate::lists::{rules_of, Header, Shape};
 use crate::table::{table_length, table_of};
 
 pub const TOP: u32 = 4294967295;
@@ -11,6 +11,22 @@ pub const BENCH: [u32; 20] = [7, 7, 100, 100, 7, 7, 200, 299, 8, 8, 0, 999, 7, 7
 /// Values of d at and around 1 to 8, and such as wrap to one of them in 8, 16 or 32 bits, doubled or not.
 pub const ODD_FIELDS: [u32; 14] =
     [0, 9, 10, 16, 255, 256, 257, 264, 65536, 65537, 2147483647, 2147483648, 2147483649, TOP];
+
+/// Flags that make every field a date.
+pub const ALL: u32 = 255;
+
+/// d fields, of which field f is a date where bit f of the flags is 1.
+pub fn dated(d: u32, flags: u32) -> Shape {
+    Shape { d, dates: std::array::from_fn(|f| flags >> f & 1 == 1) }
+}
+
+/// The rules of a list without dates, under this shape: where a field is a date its high goes one up, so that each rule
+/// holds what it held. No such high may be 4294967295.
+pub fn as_dates(shape: Shape, list: &[u32]) -> Vec<u32> {
+    let d = shape.d as usize;
+    let end = |(i, number): (usize, &u32)| number + (i % 2 == 1 && shape.is_date(i / 2 % d)) as u32;
+    list.iter().enumerate().map(end).collect()
+}
 
 /// A header of these numbers, and then of `rest`.
 pub fn header_of(numbers: &[u32], rest: u32) -> Header {
@@ -27,6 +43,11 @@ pub fn stairs(n: usize, d: u32) -> Vec<u32> {
 /// n rules, each within the one before it: rule i is i to 3000 - i in every field.
 pub fn nested(n: usize, d: u32) -> Vec<u32> {
     (0..n as u32).flat_map(|i| [i, 3000 - i].repeat(d as usize)).collect()
+}
+
+/// n rules, each of which begins where the one before it ends: rule i is i to i + 1 in every field.
+pub fn chain(n: usize, d: u32) -> Vec<u32> {
+    (0..n as u32).flat_map(|i| [i, i + 1].repeat(d as usize)).collect()
 }
 
 /// n rules, all of them 7 to 7 in every field.
@@ -80,10 +101,11 @@ pub fn all_headers(d: u32, top: u32) -> Vec<Header> {
     headers
 }
 
-/// The table that the build writes for a list of the right length; the list may have low > high nowhere.
-pub fn built(d: u32, list: &[u32]) -> Vec<u16> {
-    let rules = rules_of(d, list).expect("a list of the right length");
-    table_of(&rules, d as usize)
+/// The table that the build writes for a list of the right length, which the build does not refuse with 4.
+pub fn built(shape: impl Into<Shape>, list: &[u32]) -> Vec<u16> {
+    let shape = shape.into();
+    let rules = rules_of(shape, list).expect("a list of the right length");
+    table_of(&rules, shape.d as usize)
 }
 
 /// A table of the right length for n rules on d fields, filled with numbers that the build would not leave.

@@ -1,17 +1,19 @@
 //! Cases of layer 3: the build, the audit, the report.
 
-use super::characters::{drawn_list, spoiled_list, turned};
+use super::characters::{dated_list, drawn_shape, spoiled_list, turned};
 use super::lines::Lines;
 use super::shapes::{
-    all_lists, altered, built, filled, grid, nested, permutations, reversed, stairs, twins, unwritten, BENCH,
-    ODD_FIELDS, TOP,
+    all_lists, altered, as_dates, built, chain, dated, filled, grid, nested, permutations, reversed, stairs, twins,
+    unwritten, ALL, BENCH, ODD_FIELDS, TOP,
 };
 use super::tables::{damage, looks_right};
+use crate::lists::Shape;
 use crate::seed::Seed;
 
 /// Builds into a table of the right length that holds other numbers.
-pub fn build(out: &mut Lines, d: u32, list: &[u32]) {
-    out.build(d, list, &unwritten(list.len() / (2 * d as usize), d));
+pub fn build(out: &mut Lines, shape: impl Into<Shape>, list: &[u32]) {
+    let shape = shape.into();
+    out.build(shape, list, &unwritten(list.len() / (2 * shape.d as usize), shape.d));
 }
 
 /// B1; B9 for every d.
@@ -52,6 +54,31 @@ fn small_lists(out: &mut Lines) {
     build(out, 1, &[0, 5, 3, 9, 6, 9, 0, 9, 10, 10, 0, 2]);
 }
 
+/// 02, W8: dates that touch share a partition, and ranges that touch do not; a flag is its own field's alone, and none
+/// past d is read; the bench list has the same table where its dates end one later.
+fn lists_of_dates(out: &mut Lines) {
+    for d in 1..=8 {
+        for flags in [0, ALL].into_iter().chain((0..8).map(|f| 1 << f)) {
+            build(out, dated(d, flags), &chain(3, d));
+        }
+        build(out, dated(d, ALL), &reversed(d, &chain(5, d)));
+        build(out, dated(d, ALL), &nested(3, d));
+        build(out, dated(d, ALL), &[7, 8].repeat(3 * d as usize));
+    }
+    for flags in 0..4 {
+        let shape = dated(2, flags);
+        build(out, shape, &as_dates(shape, &BENCH));
+        build(out, shape, &as_dates(shape, &reversed(2, &grid(2))));
+        // equal in field 0, and touching in field 1; then the other way round
+        build(out, shape, &[7, 8, 5, 9, 7, 8, 1, 5, 7, 8, 9, 10]);
+        build(out, shape, &[5, 9, 7, 8, 1, 5, 7, 8, 9, 10, 7, 8]);
+    }
+    // dates that end at the top, touch it, and lie beside it
+    build(out, dated(1, 1), &[TOP - 1, TOP, 0, 1, 1, TOP - 1]);
+    build(out, dated(1, 1), &[0, TOP, TOP - 1, TOP, 0, TOP - 1]);
+    build(out, dated(1, 1), &[2147483648, TOP, 0, 2147483648, 2147483647, 2147483648]);
+}
+
 /// All lists of two and of three rules on one field of a small space, and of two rules on two fields.
 fn small_spaces(out: &mut Lines) {
     for list in all_lists(2, 3).iter().chain(&all_lists(3, 2)) {
@@ -59,6 +86,17 @@ fn small_spaces(out: &mut Lines) {
     }
     for list in all_lists(4, 2) {
         build(out, 2, &list);
+    }
+}
+
+/// The same as dates, which end one later; fewer of two fields, of which one or both are dates.
+fn small_spaces_of_dates(out: &mut Lines) {
+    for list in all_lists(2, 3).iter().chain(&all_lists(3, 2)) {
+        build(out, dated(1, 1), &as_dates(dated(1, 1), list));
+    }
+    for (i, list) in all_lists(4, 2).iter().enumerate().step_by(5) {
+        let shape = dated(2, 1 + i as u32 % 3);
+        build(out, shape, &as_dates(shape, list));
     }
 }
 
@@ -70,6 +108,7 @@ fn many_rules(out: &mut Lines) {
     build(out, 1, &nested(1024, 1));
     build(out, 8, &stairs(1024, 8));
     build(out, 1, &twins(1025, 1));
+    build(out, dated(1, 1), &reversed(1, &chain(1024, 1)));
     let list = twins(1024, 1);
     let mut table = built(1, &list);
     out.audit(1, &list, &table);
@@ -79,123 +118,151 @@ fn many_rules(out: &mut Lines) {
     out.audit(1, &list, &table);
 }
 
-/// Lists of the three calls that follow, and the number of their fields.
-fn small_built(out: &mut Lines, each: fn(&mut Lines, u32, &[u32])) {
-    each(out, 2, &BENCH);
-    each(out, 1, &[]);
-    each(out, 3, &[]);
-    each(out, 1, &[4, 6]);
-    each(out, 1, &twins(3, 1));
-    each(out, 1, &[6, 7, 4, 5, 0, 9, 2, 3]);
-    each(out, 2, &reversed(2, &grid(2)));
-    each(out, 3, &[7, 7, 8, 8, 9, 9, 7, 7, 8, 8, 4, 5, 7, 7, 0, 3, 9, 9]);
+/// Lists of the three calls that follow, and their shapes.
+fn small_built(out: &mut Lines, each: fn(&mut Lines, Shape, &[u32])) {
+    each(out, Shape::from(2), &BENCH);
+    each(out, Shape::from(1), &[]);
+    each(out, Shape::from(3), &[]);
+    each(out, Shape::from(1), &[4, 6]);
+    each(out, Shape::from(1), &twins(3, 1));
+    each(out, dated(1, ALL - 1), &[6, 7, 4, 5, 0, 9, 2, 3]);
+    each(out, dated(1, 1), &[6, 9, 4, 6, 0, 9, 2, 4]);
+    each(out, Shape::from(2), &reversed(2, &grid(2)));
+    each(out, dated(3, 0b101), &[7, 9, 8, 8, 9, 10, 7, 9, 8, 8, 5, 9, 7, 9, 0, 3, 9, 10]);
 }
 
 /// The built table is yes; with any single number altered it is no.
-fn audits(out: &mut Lines, d: u32, list: &[u32]) {
-    let table = built(d, list);
-    out.audit(d, list, &table);
-    for other in altered(&table, list.len() / (2 * d as usize)) {
-        out.audit(d, list, &other);
+fn audits(out: &mut Lines, shape: Shape, list: &[u32]) {
+    let table = built(shape, list);
+    out.audit(shape, list, &table);
+    for other in altered(&table, list.len() / (2 * shape.d as usize)) {
+        out.audit(shape, list, &other);
+    }
+}
+
+/// 02, W8: the table of a list under some flags, audited under others: yes where both builds write the same. A report is
+/// the same.
+fn other_flags(out: &mut Lines) {
+    for list in [chain(3, 2), as_dates(dated(2, 3), &grid(2)), vec![1, 5, 0, 4, 5, 9, 4, 8, 1, 5, 4, 8]] {
+        for built_flags in 0..4 {
+            let table = built(dated(2, built_flags), &list);
+            for flags in 0..8 {
+                out.audit(dated(2, flags), &list, &table);
+                out.report(dated(2, flags), &list, &table, 0);
+            }
+        }
     }
 }
 
 /// Every partition of the built table, partition numbers past the last, and each with any single number altered.
-fn reports(out: &mut Lines, d: u32, list: &[u32]) {
-    let table = built(d, list);
+fn reports(out: &mut Lines, shape: Shape, list: &[u32]) {
+    let table = built(shape, list);
     let b = table[2] as u32;
     for p in [b + 1, 65535, 65536, 65536 + b, 2147483648, TOP] {
-        out.report(d, list, &table, p);
+        out.report(shape, list, &table, p);
     }
     for p in 0..=b {
-        out.report(d, list, &table, p);
-        for other in altered(&table, list.len() / (2 * d as usize)) {
-            out.report(d, list, &other, p);
+        out.report(shape, list, &table, p);
+        for other in altered(&table, list.len() / (2 * shape.d as usize)) {
+            out.report(shape, list, &other, p);
         }
     }
 }
 
 /// 1 to 5 of all three calls in their order; the report never gives 4.
 fn refusals(out: &mut Lines) {
-    let mut all = |d: u32, list: &[u32], table: &[u16]| {
-        out.build(d, list, table);
-        out.audit(d, list, table);
-        out.report(d, list, table, 0);
-        out.report(d, list, table, TOP);
+    let mut all = |shape: Shape, list: &[u32], table: &[u16]| {
+        out.build(shape, list, table);
+        out.audit(shape, list, table);
+        out.report(shape, list, table, 0);
+        out.report(shape, list, table, TOP);
     };
     for d in ODD_FIELDS {
-        all(d, &[], &[0, d as u16, 0, 0]);
-        all(d, &[9, 7, 7], &[]);
+        all(Shape::from(d), &[], &[0, d as u16, 0, 0]);
+        all(dated(d, ALL), &[9, 7, 7], &[]);
     }
     for d in 1..=8 {
+        let shape = if d % 2 == 0 { Shape::from(d) } else { dated(d, ALL - 1) };
         let list = stairs(2, d);
-        let right = built(d, &list);
-        all(d, &list, &right[..right.len() - 1]);
-        all(d, &list, &[&right[..], &[0]].concat());
-        all(d, &list, &[]);
-        all(d, &list[1..], &right);
-        all(d, &[&list[..], &[7]].concat(), &right);
+        let right = built(shape, &list);
+        all(shape, &list, &right[..right.len() - 1]);
+        all(shape, &list, &[&right[..], &[0]].concat());
+        all(shape, &list, &[]);
+        all(shape, &list[1..], &right);
+        all(shape, &[&list[..], &[7]].concat(), &right);
         // 4 and then 5; a report takes this list
         let mut turned = list.clone();
         turned[4 * d as usize - 2] = 9;
-        all(d, &turned, &right);
-        all(d, &turned, &right[1..]);
+        all(shape, &turned, &right);
+        all(shape, &turned, &right[1..]);
+        // the same where low is high, in a last field that is a date; and in one that is none
+        turned[4 * d as usize - 2] = 3;
+        all(dated(d, 1 << (d - 1)), &turned, &right);
+        all(dated(d, 1 << (d - 1)), &turned, &right[1..]);
+        all(dated(d, 1 << (d % 8)), &turned, &right);
     }
-    all(2, &BENCH, &filled(33));
-    all(2, &BENCH, &filled(34));
-    all(2, &BENCH, &filled(35));
+    let bench = Shape::from(2);
+    all(bench, &BENCH, &filled(33));
+    all(bench, &BENCH, &filled(34));
+    all(bench, &BENCH, &filled(35));
     // the table that a list of one rule less or more would have
-    all(2, &BENCH, &filled(28));
-    all(2, &BENCH, &filled(40));
-    all(1, &twins(1025, 1), &[]);
+    all(bench, &BENCH, &filled(28));
+    all(bench, &BENCH, &filled(40));
+    all(Shape::from(1), &twins(1025, 1), &[]);
     // 2 before 3 before 4 before 5
     let mut long = twins(1025, 1);
     long[0] = 8;
-    all(1, &long, &[]);
+    all(dated(1, 1), &long, &[]);
     long.push(7);
-    all(1, &long, &[]);
-    all(1, &[8, 7], &[]);
+    all(dated(1, 1), &long, &[]);
+    all(Shape::from(1), &[8, 7], &[]);
 }
 
 pub fn edges(out: &mut Lines) {
     marked(out);
     small_lists(out);
+    lists_of_dates(out);
     small_spaces(out);
+    small_spaces_of_dates(out);
     many_rules(out);
     small_built(out, audits);
     small_built(out, reports);
+    other_flags(out);
     refusals(out);
 }
 
-/// A few drawn calls on one drawn list: built afresh, audited and reported on, the table right or damaged.
+/// A few drawn calls on one drawn list: built afresh, audited and reported on, the table right or damaged, the flags
+/// those of the build or others.
 pub fn drawn(seed: &mut Seed, out: &mut Lines) {
-    let (d, list) = drawn_list(seed);
-    let n = list.len() / (2 * d as usize);
-    let mut table = built(d, &list);
-    out.build(d, &list, &unwritten(n, d));
-    out.audit(d, &list, &table);
-    out.report(d, &list, &table, seed.between(0, table[2] as u32 + 1));
+    let (shape, list) = dated_list(seed);
+    let n = list.len() / (2 * shape.d as usize);
+    let mut table = built(shape, &list);
+    let other = drawn_shape(seed, shape.d);
+    out.build(shape, &list, &unwritten(n, shape.d));
+    out.audit(shape, &list, &table);
+    out.audit(other, &list, &table);
+    out.report(shape, &list, &table, seed.between(0, table[2] as u32 + 1));
     if seed.once_in(4) {
-        table = looks_right(seed, n, d as usize);
+        table = looks_right(seed, n, shape.d as usize);
     } else {
         damage(seed, &mut table, n);
     }
-    out.audit(d, &list, &table);
-    for _ in 0..3 {
-        out.report(d, &list, &table, seed.between(0, table[2].min(n as u16) as u32));
+    out.audit(shape, &list, &table);
+    for shape in [shape, other] {
+        out.report(shape, &list, &table, seed.between(0, table[2].min(n as u16) as u32));
     }
-    let (mut d, mut list) = (d, list);
+    let (mut shape, mut list) = (shape, list);
     if seed.once_in(2) {
         turned(seed, &mut list);
     } else {
-        spoiled_list(seed, &mut d, &mut list);
+        spoiled_list(seed, &mut shape, &mut list);
     }
     match seed.below(4) {
         0 => drop(table.pop()),
         1 => table.push(0),
         _ => (),
     }
-    out.build(d, &list, &table);
-    out.audit(d, &list, &table);
-    out.report(d, &list, &table, 0);
+    out.build(shape, &list, &table);
+    out.audit(shape, &list, &table);
+    out.report(shape, &list, &table, 0);
 }

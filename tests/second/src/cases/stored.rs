@@ -1,14 +1,15 @@
 //! The lines that are stored with the crate `calls`, so that `rt` alone holds the proved program to them: B1 to B12,
-//! each word in good cases, each refusal of each word in its order, faults of a line, and the edges that 01 names. They
-//! are few; the edges of all kinds are compared by tests/run.
+//! each word in good cases, with dates too, each refusal of each word in its order, faults of a line, and the edges that
+//! 01 names. They are few; the edges of all kinds are compared by tests/run.
 
 use super::lines::Lines;
 use super::lists::three;
-use super::lookup::{look, MARKED};
+use super::lookup::{look, MARKED, WIDE_RUN};
 use super::prefixes::{self, into_runs, lent};
-use super::protocol::{replaced, GOOD};
-use super::shapes::{built, header_of, nested, reversed, stairs, twins, BENCH, TOP};
+use super::protocol::{replaced, GOOD, WORKED};
+use super::shapes::{built, chain, dated, header_of, nested, reversed, stairs, twins, ALL, BENCH, TOP};
 use super::sorting::build;
+use crate::lists::Shape;
 
 /// B1 to B12; B9 with several headers, B12 with the way back.
 fn marked(out: &mut Lines) {
@@ -24,16 +25,17 @@ fn marked(out: &mut Lines) {
 }
 
 /// Every call on one list: its table built, audited, looked up in, and reported on up to the first partition it lacks.
-fn every_call(out: &mut Lines, d: u32, list: &[u32], header: &[u32]) {
-    let (table, header) = (built(d, list), header_of(header, TOP));
-    out.check(d, list);
-    out.scan(d, list, &header);
-    out.independent(d, list);
-    build(out, d, list);
-    out.audit(d, list, &table);
-    out.lookup(d, list, &table, &header);
+fn every_call(out: &mut Lines, shape: impl Into<Shape>, list: &[u32], header: &[u32]) {
+    let shape = shape.into();
+    let (table, header) = (built(shape, list), header_of(header, TOP));
+    out.check(shape, list);
+    out.scan(shape, list, &header);
+    out.independent(shape, list);
+    build(out, shape, list);
+    out.audit(shape, list, &table);
+    out.lookup(shape, list, &table, &header);
     for p in 0..=table[2] as u32 {
-        out.report(d, list, &table, p);
+        out.report(shape, list, &table, p);
     }
 }
 
@@ -59,17 +61,19 @@ fn good(out: &mut Lines) {
 }
 
 /// The four calls that take a table, under a header of sevens and for partition 0.
-fn of_a_table(out: &mut Lines, d: u32, list: &[u32], table: &[u16]) {
-    out.build(d, list, table);
-    out.audit(d, list, table);
-    out.lookup(d, list, table, &[7; 8]);
-    out.report(d, list, table, 0);
+fn of_a_table(out: &mut Lines, shape: impl Into<Shape>, list: &[u32], table: &[u16]) {
+    let shape = shape.into();
+    out.build(shape, list, table);
+    out.audit(shape, list, table);
+    out.lookup(shape, list, table, &[7; 8]);
+    out.report(shape, list, table, 0);
 }
 
 /// The seven calls that take a list.
-fn of_a_list(out: &mut Lines, d: u32, list: &[u32], table: &[u16]) {
-    three(out, d, list);
-    of_a_table(out, d, list, table);
+fn of_a_list(out: &mut Lines, shape: impl Into<Shape>, list: &[u32], table: &[u16]) {
+    let shape = shape.into();
+    three(out, shape, list);
+    of_a_table(out, shape, list, table);
 }
 
 /// 1 to 5 of every call that has them, each where all that come after it would apply too.
@@ -219,6 +223,46 @@ fn winners(out: &mut Lines) {
     look(out, 1, &[5, 5, 0, 9], &header_of(&[5], 5));
 }
 
+/// 02, W8: dates that touch; flags past d; 4 where low is high; the six outcomes, and FIELD; dates of no day in a lookup,
+/// and 4294967295, which lies in none; a broken table; other flags than the build's; D with eight zeros.
+fn dates(out: &mut Lines) {
+    for (line, _) in WORKED {
+        out.raw(line.as_bytes());
+    }
+    every_call(out, dated(2, 2), &[7, 7, 5, 9, 7, 7, 1, 5], &[7, 5]);
+    out.lookup(dated(2, ALL - 2), &chain(2, 2), &built(dated(2, 1), &chain(2, 2)), &header_of(&[1, 2], 0));
+    of_a_list(out, dated(2, 2), &[7, 7, 7, 8, 7, 7, 7, 7], &built(2, &stairs(2, 2)));
+    for (low, high, number) in [(5, 9, 4), (5, 9, 5), (5, 9, 7), (5, 9, 8), (5, 9, 9), (5, 5, 5), (7, 0, 6), (7, 0, 7)]
+    {
+        out.side(dated(3, 0b1100), 3, low, high, number);
+    }
+    for (field, number) in [(1, 9), (8, 9), (32, 9), (0, TOP), (0, TOP - 1)] {
+        out.side(dated(8, ALL - 2), field, 0, if field == 0 { TOP } else { 9 }, number);
+    }
+    // rule 1 has no day: a number less than its low is below, else it is above
+    for (list, numbers) in [
+        ([4, 5, 5, 5, 5, 9], [4, 5, 8]),
+        ([0, 7, 7, 0, 7, TOP], [6, 7, TOP]),
+        ([0, 0, 0, 0, 0, TOP], [0, TOP - 1, TOP]),
+    ] {
+        for number in numbers {
+            out.lookup(dated(1, 1), &list, &built(1, &stairs(3, 1)), &header_of(&[number], 0));
+        }
+    }
+    // the confirming comparison alone comes to a due day
+    for high in [1, 2] {
+        out.lookup(dated(2, 1), &[0, high, 0, 1, 1, 2, 5, 6], &WIDE_RUN, &header_of(&[1], 0));
+    }
+    for (built_as, looked_as) in [(1, 0), (0, 1)] {
+        let table = built(dated(1, built_as), &[1, 5, 5, 9]);
+        out.audit(dated(1, looked_as), &[1, 5, 5, 9], &table);
+        out.lookup(dated(1, looked_as), &[1, 5, 5, 9], &table, &header_of(&[5], 0));
+    }
+    out.zeros = true;
+    three(out, 1, &[7, 7]);
+    out.zeros = false;
+}
+
 /// Prefixes: ends at 0 and at the top, runs that are short, odd or too long, widths 1 and 32, 9 to 12 in their order.
 fn widths(out: &mut Lines) {
     for (low, high, width) in [(0, 0, 1), (1, 30, 5), (0, TOP, 32), (TOP, TOP, 32)] {
@@ -256,8 +300,8 @@ fn counts_of_zeros(out: &mut Lines) {
 }
 
 /// Words that are none, also in capitals and with a byte more; bytes beside the digits; lengths that are not held, and
-/// a length and a table's number too large by one.
-const FAULTY: [&[u8]; 19] = [
+/// a length and a table's number too large by one; flags fewer, more and others, and a colon where none belongs.
+const FAULTY: [&[u8]; 28] = [
     b"",
     b" ",
     b"check",
@@ -277,6 +321,15 @@ const FAULTY: [&[u8]; 19] = [
     b"r2p 0 0 5 4294967295",
     b"p2r 0 0 4294967296",
     b"audit 1 0 4 0 1 0 65536",
+    b"check 1:0000000 0",
+    b"check 1:000000000 0",
+    b"check 1:00000002 0",
+    b"check :00000000 0",
+    b"check 1: 0",
+    b"check 1:00000000: 0",
+    b"check 1 0:00000000",
+    b"p2r 16:00000000 2 5",
+    b"r2p 16:00000000 23 5 2 9 9",
 ];
 
 /// Faults of a good line of each word: cut short, too long, a number that is none, blanks and CR where none belong.
@@ -319,6 +372,7 @@ pub fn lines(out: &mut Lines) {
     turned_ends(out);
     spots(out);
     winners(out);
+    dates(out);
     widths(out);
     counts_of_zeros(out);
     limits(out);

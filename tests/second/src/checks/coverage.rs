@@ -97,10 +97,10 @@ fn only_the_protocol_has_faulty_lines() {
 }
 
 #[test]
-fn edges_of_a_kind_have_at_most_a_million_bytes() {
+fn edges_of_a_kind_have_at_most_1200000_bytes() {
     for kind in KINDS {
         let bytes: usize = edges(kind).unwrap().lines.iter().map(|line| line.len() + 1).sum();
-        assert!(bytes <= 1_000_000, "{}: {} bytes", kind, bytes);
+        assert!(bytes <= 1_200_000, "{}: {} bytes", kind, bytes);
     }
 }
 

@@ -1,6 +1,7 @@
 //! 01, A small bench list: B1 to B12, and what the program prints.
 
 use crate::cases::shapes::{built, header_of, BENCH, TOP};
+use crate::lists::Shape;
 use crate::lookup::{lookup, Looked};
 use crate::prefixes::{prefix_to_range, range_to_prefixes};
 use crate::program::printed;
@@ -8,14 +9,14 @@ use crate::table::build;
 
 /// Looks a header of the bench list up in its table: the rule, the tests, and whether it is at an edge.
 fn looked(model: u32, serial: u32) -> (Option<usize>, usize, bool) {
-    let looked = lookup(2, &BENCH, &built(2, &BENCH), &header_of(&[model, serial], 0)).unwrap();
+    let looked = lookup(Shape::from(2), &BENCH, &built(2, &BENCH), &header_of(&[model, serial], 0)).unwrap();
     (looked.rule, looked.tests, looked.edge)
 }
 
 #[test]
 fn b1() {
     let mut table = [9; 34];
-    assert_eq!(build(2, &BENCH, &mut table), Ok(3));
+    assert_eq!(build(Shape::from(2), &BENCH, &mut table), Ok(3));
     let parts: [&[u16]; 5] = [
         &[5, 2, 3],
         &[0, 1, 2, 3, 4],
@@ -64,10 +65,10 @@ fn b8() {
 #[test]
 fn b9() {
     let mut table = [9; 4];
-    assert_eq!(build(1, &[], &mut table), Ok(0));
+    assert_eq!(build(Shape::from(1), &[], &mut table), Ok(0));
     assert_eq!(table, [0, 1, 0, 0]);
     for number in [0, 1, 7, TOP] {
-        assert_eq!(lookup(1, &[], &table, &[number; 8]), Ok(Looked { rule: None, tests: 0, edge: false }));
+        assert_eq!(lookup(Shape::from(1), &[], &table, &[number; 8]), Ok(Looked { rule: None, tests: 0, edge: false }));
     }
 }
 

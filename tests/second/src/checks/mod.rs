@@ -1,6 +1,7 @@
 //! The second program's own checks: it is held to 01 by hand-worked cases and by properties, and to no other program.
 
 mod coverage;
+mod dates;
 mod marks;
 mod properties;
 mod readings;

@@ -1,15 +1,24 @@
-//! Properties on drawn and on whole small spaces, each worked out another way than the program does it.
+//! Properties on drawn and on whole small spaces, each worked out another way than the program does it. Drawn lists
+//! have dates or none.
 
-use crate::cases::characters::{drawn_header, drawn_list, list_of, turned};
-use crate::cases::shapes::{all_headers, all_lists, altered, built, grid, reversed, stairs, BENCH, TOP};
+use crate::cases::characters::{dated_list, drawn_header, drawn_shape, list_for, turned};
+use crate::cases::shapes::{
+    all_headers, all_lists, altered, as_dates, built, dated, grid, reversed, stairs, BENCH, TOP,
+};
 use crate::cases::tables::{damage, looks_right};
-use crate::lists::{fits, independence, rules_of, scan, Rule};
+use crate::lists::{fits, independence, rules_of, scan, Rule, Shape};
 use crate::lookup::{lookup, walk, Looked};
 use crate::prefixes::{pairs_of, prefix_to_range};
-use crate::ranges::{side_of, spot_of, Range, Side, Spot};
+use crate::ranges::{holds, is_void, side_of, spot_of, Range, Side, Spot};
 use crate::seed::Seed;
 use crate::sorting::{standing, Standing};
 use crate::table::{audit, open, report};
+
+/// All ranges within 0 to 5, also with low > high, of dates and not.
+fn small_ranges() -> Vec<Range> {
+    let ends = (0..=5).flat_map(|low| (0..=5).map(move |high| (low, high)));
+    ends.flat_map(|(low, high)| [false, true].map(|date| Range { low, high, date })).collect()
+}
 
 /// The largest whole number k with 2^k ≤ m.
 fn k_of(m: usize) -> usize {
@@ -25,12 +34,12 @@ fn lookup_is_first_match() {
     let mut seed = Seed::new(1);
     let mut found = 0;
     for _ in 0..4000 {
-        let (d, list) = drawn_list(&mut seed);
-        let table = built(d, &list);
+        let (shape, list) = dated_list(&mut seed);
+        let table = built(shape, &list);
         for _ in 0..5 {
-            let header = drawn_header(&mut seed, d, &list);
-            let rule = lookup(d, &list, &table, &header).unwrap().rule;
-            assert_eq!(rule, scan(d, &list, &header).unwrap());
+            let header = drawn_header(&mut seed, shape, &list);
+            let rule = lookup(shape, &list, &table, &header).unwrap().rule;
+            assert_eq!(rule, scan(shape, &list, &header).unwrap());
             found += rule.iter().count();
         }
     }
@@ -43,23 +52,24 @@ fn lookup_is_first_match_for_1024_rules() {
     let mut seed = Seed::new(2);
     for _ in 0..12 {
         let d = seed.between(1, 8);
-        let list = list_of(&mut seed, 1024, d);
-        let table = built(d, &list);
+        let shape = drawn_shape(&mut seed, d);
+        let list = list_for(&mut seed, 1024, shape);
+        let table = built(shape, &list);
         for _ in 0..50 {
-            let header = drawn_header(&mut seed, d, &list);
-            assert_eq!(lookup(d, &list, &table, &header).unwrap().rule, scan(d, &list, &header).unwrap());
+            let header = drawn_header(&mut seed, shape, &list);
+            assert_eq!(lookup(shape, &list, &table, &header).unwrap().rule, scan(shape, &list, &header).unwrap());
         }
     }
 }
 
 /// Walks every partition that has places; answers how many walks were not refused.
-fn walks_keep_the_bound(d: u32, list: &[u32], table: &[u16], header: &[u32; 8]) -> usize {
+fn walks_keep_the_bound(shape: Shape, list: &[u32], table: &[u16], header: &[u32; 8]) -> usize {
     let mut walked = 0;
-    if let Ok((rules, table)) = open(d, list, table) {
+    if let Ok((rules, table)) = open(shape, list, table) {
         for k in 0..table.b() {
             if let Ok((s, e)) = table.partition(k) {
                 if let Ok(walk) = walk(&rules, &table, header, s, e) {
-                    assert!(walk.tests <= d as usize + k_of(e - s));
+                    assert!(walk.tests <= shape.d as usize + k_of(e - s));
                     assert!(walk.candidate.iter().all(|rule| fits(&rules[*rule], header)));
                     walked += 1;
                 }
@@ -74,17 +84,19 @@ fn tests_are_at_most_d_plus_k_and_a_rule_returned_fits_whatever_the_table() {
     let mut seed = Seed::new(3);
     let mut walked = 0;
     for _ in 0..5000 {
-        let (d, mut list) = drawn_list(&mut seed);
-        let n = list.len() / (2 * d as usize);
-        let mut table = built(d, &list);
-        let header = drawn_header(&mut seed, d, &list);
-        walked += walks_keep_the_bound(d, &list, &table, &header);
+        let (shape, mut list) = dated_list(&mut seed);
+        let n = list.len() / (2 * shape.d as usize);
+        let mut table = built(shape, &list);
+        let header = drawn_header(&mut seed, shape, &list);
+        walked += walks_keep_the_bound(shape, &list, &table, &header);
+        // flags other than the build's
+        walked += walks_keep_the_bound(drawn_shape(&mut seed, shape.d), &list, &table, &header);
         damage(&mut seed, &mut table, n);
-        walked += walks_keep_the_bound(d, &list, &table, &header);
+        walked += walks_keep_the_bound(shape, &list, &table, &header);
         turned(&mut seed, &mut list);
-        walked += walks_keep_the_bound(d, &list, &looks_right(&mut seed, n, d as usize), &header);
+        walked += walks_keep_the_bound(shape, &list, &looks_right(&mut seed, n, shape.d as usize), &header);
     }
-    assert!(walked > 10000, "{} walked", walked);
+    assert!(walked > 13000, "{} walked", walked);
 }
 
 #[test]
@@ -93,7 +105,7 @@ fn d_plus_k_is_reached() {
         for m in (1..=33).chain([63, 64, 65, 127, 128, 1023, 1024]) {
             let list = stairs(m, d);
             assert_eq!(
-                lookup(d, &list, &built(d, &list), &[0; 8]),
+                lookup(Shape::from(d), &list, &built(d, &list), &[0; 8]),
                 Ok(Looked { rule: Some(0), tests: d as usize + k_of(m), edge: true })
             );
         }
@@ -102,18 +114,23 @@ fn d_plus_k_is_reached() {
 
 #[test]
 fn all_but_below_and_above_are_inside() {
-    for low in 0..=5 {
-        for high in 0..=5 {
-            for number in 0..=6 {
-                let range = Range { low, high };
-                let side = match spot_of(range, number) {
-                    Spot::Below => Side::Below,
-                    Spot::Above => Side::Above,
-                    _ => Side::Inside,
-                };
-                assert_eq!(side, side_of(range, number));
-            }
+    for range in small_ranges() {
+        for number in 0..=6 {
+            let side = match spot_of(range, number) {
+                Spot::Below => Side::Below,
+                Spot::Above => Side::Above,
+                _ => Side::Inside,
+            };
+            assert_eq!(side, side_of(range, number));
+            assert_eq!(side == Side::Inside, holds(range, number));
         }
+    }
+}
+
+#[test]
+fn a_range_is_void_where_it_holds_nothing() {
+    for range in small_ranges() {
+        assert_eq!(is_void(range), (0..=6).all(|number| !holds(range, number)));
     }
 }
 
@@ -122,11 +139,11 @@ fn the_edge_is_that_of_the_winners_spots() {
     let mut seed = Seed::new(14);
     let mut edges = 0;
     for _ in 0..4000 {
-        let (d, list) = drawn_list(&mut seed);
-        let header = drawn_header(&mut seed, d, &list);
-        let looked = lookup(d, &list, &built(d, &list), &header).unwrap();
+        let (shape, list) = dated_list(&mut seed);
+        let header = drawn_header(&mut seed, shape, &list);
+        let looked = lookup(shape, &list, &built(shape, &list), &header).unwrap();
         let at_end = |spot: Spot| matches!(spot, Spot::Low | Spot::High | Spot::Both);
-        let rules = rules_of(d, &list).unwrap();
+        let rules = rules_of(shape, &list).unwrap();
         let winner = looked.rule.map_or(Vec::new(), |rule| rules[rule].clone());
         assert_eq!(looked.edge, winner.iter().enumerate().any(|(f, range)| at_end(spot_of(*range, header[f]))));
         edges += looked.edge as usize;
@@ -138,13 +155,13 @@ fn the_edge_is_that_of_the_winners_spots() {
 fn numbers_past_d_alter_nothing() {
     let mut seed = Seed::new(4);
     for _ in 0..1000 {
-        let (d, list) = drawn_list(&mut seed);
-        let table = built(d, &list);
-        let header = drawn_header(&mut seed, d, &list);
+        let (shape, list) = dated_list(&mut seed);
+        let (d, table) = (shape.d as usize, built(shape, &list));
+        let header = drawn_header(&mut seed, shape, &list);
         let mut other = [TOP; 8];
-        other[..d as usize].copy_from_slice(&header[..d as usize]);
-        assert_eq!(lookup(d, &list, &table, &header), lookup(d, &list, &table, &other));
-        assert_eq!(scan(d, &list, &header), scan(d, &list, &other));
+        other[..d].copy_from_slice(&header[..d]);
+        assert_eq!(lookup(shape, &list, &table, &header), lookup(shape, &list, &table, &other));
+        assert_eq!(scan(shape, &list, &header), scan(shape, &list, &other));
     }
 }
 
@@ -200,25 +217,26 @@ fn assert_counted(rules: &[Rule], d: usize, choice: &[usize], table: &[u16]) {
 #[test]
 fn a_built_table_is_what_counting_gives() {
     let mut seed = Seed::new(5);
-    let drawn: Vec<(u32, Vec<u32>)> = (0..1500).map(|_| drawn_list(&mut seed)).collect();
-    let small = all_lists(4, 2).into_iter().map(|list| (2, list));
-    let grids = (1..=3).map(|d| (d, reversed(d, &grid(d))));
-    for (d, list) in drawn.into_iter().chain(small).chain(grids) {
-        let rules = rules_of(d, &list).unwrap();
-        let table = built(d, &list);
+    let drawn: Vec<(Shape, Vec<u32>)> = (0..1500).map(|_| dated_list(&mut seed)).collect();
+    let lists = all_lists(4, 2).into_iter().enumerate();
+    let small = lists.map(|(i, list)| (dated(2, i as u32 % 4), as_dates(dated(2, i as u32 % 4), &list)));
+    let grids = (1..=3).map(|d| (Shape::from(d), reversed(d, &grid(d))));
+    for (shape, list) in drawn.into_iter().chain(small).chain(grids) {
+        let rules = rules_of(shape, &list).unwrap();
+        let table = built(shape, &list);
         let choice = choice_of(&table, rules.len());
         assert_first_fit(&rules, &choice);
-        assert_counted(&rules, d as usize, &choice, &table);
+        assert_counted(&rules, shape.d as usize, &choice, &table);
     }
 }
 
 #[test]
 fn an_audit_says_no_to_every_single_change() {
     for (d, list) in [(2, BENCH.to_vec()), (1, vec![]), (1, stairs(5, 1)), (3, grid(3))] {
-        let table = built(d, &list);
-        assert_eq!(audit(d, &list, &table), Ok(true));
+        let (shape, table) = (Shape::from(d), built(d, &list));
+        assert_eq!(audit(shape, &list, &table), Ok(true));
         for other in altered(&table, list.len() / (2 * d as usize)) {
-            assert_eq!(audit(d, &list, &other), Ok(false));
+            assert_eq!(audit(shape, &list, &other), Ok(false));
         }
     }
 }
@@ -227,13 +245,13 @@ fn an_audit_says_no_to_every_single_change() {
 fn reports_add_up() {
     let mut seed = Seed::new(6);
     for _ in 0..500 {
-        let (d, list) = drawn_list(&mut seed);
-        let table = built(d, &list);
-        let n = list.len() / (2 * d as usize);
+        let (shape, list) = dated_list(&mut seed);
+        let table = built(shape, &list);
+        let n = list.len() / (2 * shape.d as usize);
         let choice = choice_of(&table, n);
         for k in 0..table[2] as u32 {
             let members: Vec<usize> = (0..n).filter(|i| choice[*i] == k as usize).collect();
-            assert_eq!(report(d, &list, &table, k), Ok((members.len(), members[0])));
+            assert_eq!(report(shape, &list, &table, k), Ok((members.len(), members[0])));
         }
     }
 }
@@ -246,17 +264,22 @@ fn twins_take_two_partitions() {
 #[test]
 fn independence_is_what_all_headers_say() {
     let spaces = [
-        (1, all_lists(3, 2), all_headers(1, 2)),
-        (2, all_lists(4, 2), all_headers(2, 2)),
-        (1, all_lists(2, 4), all_headers(1, 4)),
+        (Shape::from(1), all_lists(3, 2), all_headers(1, 2)),
+        (Shape::from(2), all_lists(4, 2), all_headers(2, 2)),
+        (Shape::from(1), all_lists(2, 4), all_headers(1, 4)),
+        (dated(1, 1), all_lists(3, 2), all_headers(1, 3)),
+        (dated(2, 1), all_lists(4, 1), all_headers(2, 2)),
+        (dated(2, 2), all_lists(4, 1), all_headers(2, 2)),
+        (dated(2, 3), all_lists(4, 2), all_headers(2, 3)),
     ];
-    for (d, lists, headers) in spaces {
+    for (shape, lists, headers) in spaces {
         for list in lists {
-            let rules = rules_of(d, &list).unwrap();
+            let list = as_dates(shape, &list);
+            let rules = rules_of(shape, &list).unwrap();
             let meet = |i: usize, j: usize| headers.iter().any(|h| fits(&rules[i], h) && fits(&rules[j], h));
             let pairs = (0..rules.len()).flat_map(|i| (i + 1..rules.len()).map(move |j| (i, j)));
             let first = pairs.into_iter().find(|(i, j)| meet(*i, *j));
-            assert_eq!(independence(d, &list), Ok(first));
+            assert_eq!(independence(shape, &list), Ok(first));
         }
     }
 }

@@ -1,8 +1,9 @@
 //! One check for each reading of 01 that was chosen, by its number in docs/DECISIONS.md; then the calls protocol.
 
 use crate::calls::answer;
-use crate::cases::shapes::{built, stairs, twins, BENCH, TOP};
-use crate::lists::{independence, rules_of};
+use crate::cases::lookup::WIDE_RUN;
+use crate::cases::shapes::{built, dated, stairs, twins, BENCH, TOP};
+use crate::lists::{independence, rules_of, Shape};
 use crate::lookup::{lookup, Looked};
 use crate::prefixes::range_to_prefixes;
 use crate::program::printed;
@@ -12,7 +13,7 @@ use crate::sorting::{standing, Standing};
 use crate::table::{audit, report};
 
 fn stand(d: u32, two_rules: &[u32]) -> Standing {
-    let rules = rules_of(d, two_rules).unwrap();
+    let rules = rules_of(Shape::from(d), two_rules).unwrap();
     standing(&rules[0], &rules[1])
 }
 
@@ -31,7 +32,7 @@ fn reading_1_first_unequal_field_decides() {
 
 #[test]
 fn reading_2_below_is_tried_before_above() {
-    let turned = Range { low: 5, high: 3 };
+    let turned = Range { low: 5, high: 3, date: false };
     let sides: Vec<Side> = [3, 4, 5, 6].iter().map(|number| side_of(turned, *number)).collect();
     assert_eq!(sides, [Side::Below, Side::Below, Side::Above, Side::Above]);
     let spots: Vec<Spot> = [3, 4, 5, 6].iter().map(|number| spot_of(turned, *number)).collect();
@@ -40,44 +41,45 @@ fn reading_2_below_is_tried_before_above() {
 
 #[test]
 fn reading_3_no_partition_for_some_rules_is_6() {
-    let mut table = built(1, &stairs(2, 1));
+    let (one, mut table) = (Shape::from(1), built(1, &stairs(2, 1)));
     table[2] = 0;
-    assert_eq!(lookup(1, &stairs(2, 1), &table, &[0; 8]), Err(refuse(6)));
-    assert_eq!(report(1, &stairs(2, 1), &table, 0), Err(refuse(6)));
+    assert_eq!(lookup(one, &stairs(2, 1), &table, &[0; 8]), Err(refuse(6)));
+    assert_eq!(report(one, &stairs(2, 1), &table, 0), Err(refuse(6)));
     table[2] = 3;
-    assert_eq!(lookup(1, &stairs(2, 1), &table, &[0; 8]), Err(refuse(6)));
-    assert_eq!(lookup(1, &[], &[0, 1, 1, 0], &[0; 8]), Err(refuse(6)));
+    assert_eq!(lookup(one, &stairs(2, 1), &table, &[0; 8]), Err(refuse(6)));
+    assert_eq!(lookup(one, &[], &[0, 1, 1, 0], &[0; 8]), Err(refuse(6)));
 }
 
 #[test]
 fn reading_4_a_failed_confirmation_is_6_and_an_audit_never() {
-    // place 1's run of field 0 reaches too far back, so the walk at 1, 0 ends at place 0, whose field 0 it never tested
-    let wide_run = [2, 2, 1, 0, 1, 0, 2, 0, 0, 0, 0, 1, 1, 1, 2, 2];
-    let header = [1, 0, 0, 0, 0, 0, 0, 0];
+    let (two, header) = (Shape::from(2), [1, 0, 0, 0, 0, 0, 0, 0]);
     assert_eq!(
-        lookup(2, &[0, 1, 0, 0, 1, 1, 5, 5], &wide_run, &header),
+        lookup(two, &[0, 1, 0, 0, 1, 1, 5, 5], &WIDE_RUN, &header),
         Ok(Looked { rule: Some(0), tests: 3, edge: true })
     );
-    assert_eq!(lookup(2, &[0, 0, 0, 0, 1, 1, 5, 5], &wide_run, &header), Err(refuse(6)));
+    assert_eq!(lookup(two, &[0, 0, 0, 0, 1, 1, 5, 5], &WIDE_RUN, &header), Err(refuse(6)));
+    // a date that is due there is 6 too
+    assert_eq!(lookup(dated(2, 1), &[0, 1, 0, 0, 1, 2, 5, 5], &WIDE_RUN, &header), Err(refuse(6)));
     let mut wrong = built(2, &BENCH);
     wrong[0] = 4;
-    assert_eq!(audit(2, &BENCH, &wrong), Ok(false));
+    assert_eq!(audit(two, &BENCH, &wrong), Ok(false));
 }
 
 #[test]
 fn reading_5_no_rules_is_7_for_every_partition() {
+    let one = Shape::from(1);
     for p in [0, 1, TOP] {
-        assert_eq!(report(1, &[], &[0, 1, 0, 0], p), Err(refuse(7)));
+        assert_eq!(report(one, &[], &[0, 1, 0, 0], p), Err(refuse(7)));
     }
     // the opening's 6 before 7, and 7 before the partition's 6
     let mut table = built(1, &twins(2, 1));
     table[0] = 9;
-    assert_eq!(report(1, &twins(2, 1), &table, 9), Err(refuse(6)));
+    assert_eq!(report(one, &twins(2, 1), &table, 9), Err(refuse(6)));
     let mut table = built(1, &twins(2, 1));
     table[3] = 9;
-    assert_eq!(report(1, &twins(2, 1), &table, 2), Err(refuse(7)));
-    assert_eq!(report(1, &twins(2, 1), &table, 0), Err(refuse(6)));
-    assert_eq!(report(1, &twins(2, 1), &table, 1), Ok((1, 1)));
+    assert_eq!(report(one, &twins(2, 1), &table, 2), Err(refuse(7)));
+    assert_eq!(report(one, &twins(2, 1), &table, 0), Err(refuse(6)));
+    assert_eq!(report(one, &twins(2, 1), &table, 1), Ok((1, 1)));
 }
 
 #[test]
@@ -117,7 +119,7 @@ fn reading_7_lines_of_the_program() {
 
 #[test]
 fn reading_8_a_last_rule_that_catches_all_counts() {
-    assert_eq!(independence(1, &[0, 1, 4, 5, 0, TOP]), Ok(Some((0, 2))));
+    assert_eq!(independence(Shape::from(1), &[0, 1, 4, 5, 0, TOP]), Ok(Some((0, 2))));
 }
 
 #[test]

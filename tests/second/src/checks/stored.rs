@@ -3,6 +3,7 @@
 
 use super::coverage::{all_refusals, refusals_of, REFUSALS};
 use crate::calls::answer;
+use crate::cases::protocol::WORKED;
 use crate::cases::stored;
 
 /// The bench list with its d, and its table, as they stand in a line.
@@ -64,6 +65,22 @@ fn the_edges_that_01_names_are_stored() {
         ("r2p 1 30 5 14 ", "refused 12 8 0 run "),
     ] {
         assert!(answers_to(start).iter().any(|answer| answer.starts_with(said)), "{}", start);
+    }
+}
+
+#[test]
+fn the_lines_that_were_worked_by_hand_are_stored() {
+    for (line, said) in WORKED {
+        assert_eq!(answers_to(line), [said], "{}", line);
+    }
+}
+
+#[test]
+fn every_word_with_a_d_has_dates() {
+    for (call, _) in REFUSALS {
+        let dated = |line: &&Vec<u8>| line.starts_with(format!("{} ", call).as_bytes()) && answer(line) != "bad";
+        let with_flags = stored().lines.iter().filter(dated).filter(|line| line.contains(&b':')).count();
+        assert_eq!(with_flags > 0, !["p2r", "r2p"].contains(&call), "{}", call);
     }
 }
 

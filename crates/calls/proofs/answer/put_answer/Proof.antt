@@ -4,7 +4,7 @@ use borrow.Author.Needs.{needs}
 use mathlib.Core.Path.{sym}
 use lib.Seq.{length-take-le}
 use borrow.Author.Tests.{eq-eqb, ne-eqb, not-true, not-false}
-use Rattle.calls.specs.Lines.{Heard, heard}
+use Rattle.hearing.specs.Lines.{Heard, heard}
 use Rattle.calls.proofs.Answers.{Ended, ill-read, crowded, lost-name, called, unnamed-put, named-bad, named-call}
 use Rattle.calls.proofs.answer.put_answer.Statement.{statement}
 use Rattle.calls.proofs.answer.put_answer.Tie as tie
@@ -94,14 +94,17 @@ slice-aggregate-word-of c = sym (length-take-le _ _ (c .before .if4 .left))
 word-of-requires : tie.Need-word-of-requires
 word-of-requires c κs = search needs
 
-slice-relend-prefix-put-word : tie.Need-slice-relend-prefix-put-word
-slice-relend-prefix-put-word c = search needs
+flags-end-requires : tie.Need-flags-end-requires
+flags-end-requires c κs = search needs
 
-slice-aggregate-put-word : tie.Need-slice-aggregate-put-word
-slice-aggregate-put-word c = sym (length-take-le _ _ (c .before .before .before .before .if3 .left))
+slice-relend-prefix-put-flagged : tie.Need-slice-relend-prefix-put-flagged
+slice-relend-prefix-put-flagged c = search needs
 
-put-word-requires : tie.Need-put-word-requires
-put-word-requires c κs = search needs
+slice-aggregate-put-flagged : tie.Need-slice-aggregate-put-flagged
+slice-aggregate-put-flagged c = sym (length-take-le _ _ (c .before .before .before .before .before .if3 .left))
+
+put-flagged-requires : tie.Need-put-flagged-requires
+put-flagged-requires c κs = search needs
 
 same-length-8 : tie.Need-same-length-8
 same-length-8 c = search needs
@@ -112,14 +115,15 @@ same-length-9 c = search needs
 -- a call
 returns-5 : tie.Need-returns-5
 returns-5 c =
-    let said = c .before .before .before .before .put-word in
-    let asked = c .before .before .before .before .before .before .before in
+    let said = c .before .before .before .before .put-flagged in
+    let ends = c .before .before .before .before .before .before .before in
+    let asked = ends .before in
     let test = asked .before .before in
     let fits = test .before in
     let good = fits .before .before in
     let row = good .before .before .before .before in
     let stands = called _ _ _ _ (eq-eqb _ 0 (good .if2 .left)) (fits .if3 .left) (test .if4 .left) in
-    named-call (ended row) stands (asked .word-of .ensures) (said .ensures .0) (said .ensures .1)
+    named-call (ended row) stands (asked .word-of .ensures) (ends .flags-end .ensures) (said .ensures .0) (said .ensures .1)
 
 pub put-answer-spec : {M : Type 1} → statement M
 put-answer-spec =
@@ -144,9 +148,10 @@ put-answer-spec =
     returns-4
     slice-aggregate-word-of
     word-of-requires
-    slice-relend-prefix-put-word
-    slice-aggregate-put-word
-    put-word-requires
+    flags-end-requires
+    slice-relend-prefix-put-flagged
+    slice-aggregate-put-flagged
+    put-flagged-requires
     same-length-8
     same-length-9
     returns-5)

@@ -6,7 +6,7 @@ use native.Mathlib.Omega.{arith}
 use lib.ListN.{length}
 use Prim.Native.Nat.{_≤_}
 use lib.Seq.{length-take-le}
-use Rattle.calls.proofs.Lines.{line-within}
+use Rattle.hearing.proofs.Lines.{line-within}
 use Rattle.calls.proofs.Serving.{served-within, served-ended, anew-is}
 use Rattle.calls.proofs.reply.serve_line.Statement.{statement}
 use Rattle.calls.proofs.reply.serve_line.Tie as tie

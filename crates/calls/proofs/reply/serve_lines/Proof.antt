@@ -7,7 +7,7 @@ use mathlib.Core.Path.{_≡_, refl, sym, _∙_}
 use borrow.Author.Tests.{not-true, not-false}
 use native.Mathlib.Omega.{arith}
 use lib.ListN.{length}
-use Rattle.calls.specs.Lines.{heard}
+use Rattle.hearing.specs.Lines.{heard}
 use Rattle.calls.proofs.Replies.{Came, came-none, turn-most, turn-some, came-more, lines-full, lines-all}
 use Rattle.calls.proofs.reply.serve_lines.Statement.{statement}
 use Rattle.calls.proofs.reply.serve_lines.Tie as tie

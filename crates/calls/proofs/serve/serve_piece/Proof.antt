@@ -7,7 +7,7 @@ use mathlib.Core.Path.{_≡_, refl, _∙_}
 use native.Mathlib.Omega.{arith}
 use lib.ListN.{length}
 use Rattle.words.proofs.Lent.{rest-long}
-use Rattle.calls.specs.Lines.{heard}
+use Rattle.hearing.specs.Lines.{heard}
 use Rattle.calls.proofs.Replies.{served-lines}
 use Rattle.calls.proofs.serve.serve_piece.Statement.{statement}
 use Rattle.calls.proofs.serve.serve_piece.Tie as tie

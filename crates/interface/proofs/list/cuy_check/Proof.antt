@@ -4,9 +4,6 @@ use borrow.Author.Needs.{needs}
 use Rattle.interface.proofs.list.cuy_check.Statement.{statement}
 use Rattle.interface.proofs.list.cuy_check.Tie as tie
 
-shape-of-requires : tie.Need-shape-of-requires
-shape-of-requires c κs = search needs
-
 check-list-requires : tie.Need-check-list-requires
 check-list-requires c κs = search needs
 
@@ -14,7 +11,7 @@ put-count-requires : tie.Need-put-count-requires
 put-count-requires c κs = search needs
 
 returns : tie.Need-returns
-returns c = rw (c .before .before .check-list .ensures, c .before .before .before .shape-of .ensures) at (c .put-count .ensures)
+returns c = rw (c .before .before .check-list .ensures) at (c .put-count .ensures)
 
 pub cuy-check-spec : {M : Type 1} → statement M
-cuy-check-spec = tie.close (tie.spec shape-of-requires check-list-requires put-count-requires returns)
+cuy-check-spec = tie.close (tie.spec check-list-requires put-count-requires returns)

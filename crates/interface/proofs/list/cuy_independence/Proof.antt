@@ -4,9 +4,6 @@ use borrow.Author.Needs.{needs}
 use Rattle.interface.proofs.list.cuy_independence.Statement.{statement}
 use Rattle.interface.proofs.list.cuy_independence.Tie as tie
 
-shape-of-requires : tie.Need-shape-of-requires
-shape-of-requires c κs = search needs
-
 independence-requires : tie.Need-independence-requires
 independence-requires c κs = search needs
 
@@ -14,7 +11,7 @@ put-pair-requires : tie.Need-put-pair-requires
 put-pair-requires c κs = search needs
 
 returns : tie.Need-returns
-returns c = rw (c .before .before .independence .ensures, c .before .before .before .shape-of .ensures) at (c .put-pair .ensures)
+returns c = rw (c .before .before .independence .ensures) at (c .put-pair .ensures)
 
 pub cuy-independence-spec : {M : Type 1} → statement M
-cuy-independence-spec = tie.close (tie.spec shape-of-requires independence-requires put-pair-requires returns)
+cuy-independence-spec = tie.close (tie.spec independence-requires put-pair-requires returns)

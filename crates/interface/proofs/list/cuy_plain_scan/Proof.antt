@@ -4,9 +4,6 @@ use borrow.Author.Needs.{needs}
 use Rattle.interface.proofs.list.cuy_plain_scan.Statement.{statement}
 use Rattle.interface.proofs.list.cuy_plain_scan.Tie as tie
 
-shape-of-requires : tie.Need-shape-of-requires
-shape-of-requires c κs = search needs
-
 plain-scan-requires : tie.Need-plain-scan-requires
 plain-scan-requires c κs = search needs
 
@@ -14,7 +11,7 @@ put-match-requires : tie.Need-put-match-requires
 put-match-requires c κs = search needs
 
 returns : tie.Need-returns
-returns c = rw (c .before .before .plain-scan .ensures, c .before .before .before .before .shape-of .ensures) at (c .put-match .ensures)
+returns c = rw (c .before .before .plain-scan .ensures) at (c .put-match .ensures)
 
 pub cuy-plain-scan-spec : {M : Type 1} → statement M
-cuy-plain-scan-spec = tie.close (tie.spec shape-of-requires plain-scan-requires put-match-requires returns)
+cuy-plain-scan-spec = tie.close (tie.spec plain-scan-requires put-match-requires returns)

@@ -4,9 +4,6 @@ use borrow.Author.Needs.{needs}
 use Rattle.interface.proofs.table.cuy_audit.Statement.{statement}
 use Rattle.interface.proofs.table.cuy_audit.Tie as tie
 
-shape-of-requires : tie.Need-shape-of-requires
-shape-of-requires c κs = search needs
-
 audit-requires : tie.Need-audit-requires
 audit-requires c κs = search needs
 
@@ -14,7 +11,7 @@ put-verdict-requires : tie.Need-put-verdict-requires
 put-verdict-requires c κs = search needs
 
 returns : tie.Need-returns
-returns c = rw (c .before .before .audit .ensures, c .before .before .before .shape-of .ensures) at (c .put-verdict .ensures)
+returns c = rw (c .before .before .audit .ensures) at (c .put-verdict .ensures)
 
 pub cuy-audit-spec : {M : Type 1} → statement M
-cuy-audit-spec = tie.close (tie.spec shape-of-requires audit-requires put-verdict-requires returns)
+cuy-audit-spec = tie.close (tie.spec audit-requires put-verdict-requires returns)

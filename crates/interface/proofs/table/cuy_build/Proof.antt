@@ -4,9 +4,6 @@ use borrow.Author.Needs.{needs}
 use Rattle.interface.proofs.table.cuy_build.Statement.{statement}
 use Rattle.interface.proofs.table.cuy_build.Tie as tie
 
-shape-of-requires : tie.Need-shape-of-requires
-shape-of-requires c κs = search needs
-
 build-requires : tie.Need-build-requires
 build-requires c κs = search needs
 
@@ -19,8 +16,7 @@ same-length c = search needs
 returns : tie.Need-returns
 returns c =
     let built = c .before .before .before .before in
-    let shape = built .before .before .shape-of .ensures in
-    (rw (built .build .ensures .answers, shape) at (c .put-count .ensures), rw shape at (built .build .ensures .leaves))
+    (rw (built .build .ensures .answers) at (c .put-count .ensures), built .build .ensures .leaves)
 
 pub cuy-build-spec : {M : Type 1} → statement M
-cuy-build-spec = tie.close (tie.spec shape-of-requires build-requires put-count-requires same-length returns)
+cuy-build-spec = tie.close (tie.spec build-requires put-count-requires same-length returns)

@@ -4,9 +4,6 @@ use borrow.Author.Needs.{needs}
 use Rattle.interface.proofs.table.cuy_lookup.Statement.{statement}
 use Rattle.interface.proofs.table.cuy_lookup.Tie as tie
 
-shape-of-requires : tie.Need-shape-of-requires
-shape-of-requires c κs = search needs
-
 lookup-requires : tie.Need-lookup-requires
 lookup-requires c κs = search needs
 
@@ -14,7 +11,7 @@ put-looked-requires : tie.Need-put-looked-requires
 put-looked-requires c κs = search needs
 
 returns : tie.Need-returns
-returns c = rw (c .before .before .lookup .ensures, c .before .before .before .before .shape-of .ensures) at (c .put-looked .ensures)
+returns c = rw (c .before .before .lookup .ensures) at (c .put-looked .ensures)
 
 pub cuy-lookup-spec : {M : Type 1} → statement M
-cuy-lookup-spec = tie.close (tie.spec shape-of-requires lookup-requires put-looked-requires returns)
+cuy-lookup-spec = tie.close (tie.spec lookup-requires put-looked-requires returns)

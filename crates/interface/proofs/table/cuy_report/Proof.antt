@@ -4,9 +4,6 @@ use borrow.Author.Needs.{needs}
 use Rattle.interface.proofs.table.cuy_report.Statement.{statement}
 use Rattle.interface.proofs.table.cuy_report.Tie as tie
 
-shape-of-requires : tie.Need-shape-of-requires
-shape-of-requires c κs = search needs
-
 report-requires : tie.Need-report-requires
 report-requires c κs = search needs
 
@@ -14,7 +11,7 @@ put-part-requires : tie.Need-put-part-requires
 put-part-requires c κs = search needs
 
 returns : tie.Need-returns
-returns c = rw (c .before .before .report .ensures, c .before .before .before .shape-of .ensures) at (c .put-part .ensures)
+returns c = rw (c .before .before .report .ensures) at (c .put-part .ensures)
 
 pub cuy-report-spec : {M : Type 1} → statement M
-cuy-report-spec = tie.close (tie.spec shape-of-requires report-requires put-part-requires returns)
+cuy-report-spec = tie.close (tie.spec report-requires put-part-requires returns)

@@ -12,26 +12,28 @@ cast-offset-of c = search needs
 offset-of-requires : tie.Need-offset-of-requires
 offset-of-requires c κs = search needs
 
-mul-closed : tie.Need-mul-closed
-mul-closed c = search needs
+mul-once-asked : tie.Need-mul-once-asked
+mul-once-asked c = search needs
 
-shared-slice-read-closed : tie.Need-shared-slice-read-closed
-shared-slice-read-closed c = search needs
+shared-slice-read-once-asked : tie.Need-shared-slice-read-once-asked
+shared-slice-read-once-asked c = search needs
 
-add-closed : tie.Need-add-closed
-add-closed c = search needs
+add-once-asked : tie.Need-add-once-asked
+add-once-asked c = search needs
 
-mul-closed-2 : tie.Need-mul-closed-2
-mul-closed-2 c = search needs
+mul-once-asked-2 : tie.Need-mul-once-asked-2
+mul-once-asked-2 c = search needs
 
-shared-slice-read-closed-2 : tie.Need-shared-slice-read-closed-2
-shared-slice-read-closed-2 c = search needs
+shared-slice-read-once-asked-2 : tie.Need-shared-slice-read-once-asked-2
+shared-slice-read-once-asked-2 c = search needs
 
-closed-requires : tie.Need-closed-requires
-closed-requires c κs = search needs
+once-asked-requires : tie.Need-once-asked-requires
+once-asked-requires c κs = search needs
 
 returns : tie.Need-returns
-returns c = c .closed .ensures ∙ range-read _ _ _ _ (c .before .before .before .offset-of .ensures)
+returns c =
+    let at = c .before .before .before in
+    c .once-asked .ensures ∙ range-read _ _ _ _ _ (at .before .before .before .pre .field) (at .offset-of .ensures)
 
 pub range-at-spec : {M : Type 1} → statement M
 range-at-spec =
@@ -39,10 +41,10 @@ range-at-spec =
     (tie.spec
     cast-offset-of
     offset-of-requires
-    mul-closed
-    shared-slice-read-closed
-    add-closed
-    mul-closed-2
-    shared-slice-read-closed-2
-    closed-requires
+    mul-once-asked
+    shared-slice-read-once-asked
+    add-once-asked
+    mul-once-asked-2
+    shared-slice-read-once-asked-2
+    once-asked-requires
     returns)

@@ -41,7 +41,7 @@ walk-returns t c = every-empty _ _ _ _ _ _ _ _ _ (c .before .if1 .taken) (c .pac
 
 walk-arrive-requires : (t : ℕ) → walk-lts.Need-arrive-requires (claims t) (walk-at t) walk.Post
 walk-arrive-requires t c κs =
-    let full = c .before .before .before .before in
+    let full = c .before .before .before in
     let st = full .before in
     (st .pre .1 .0, (full .if1 .left, st .pre .1 .1 .in-table))
 
@@ -53,12 +53,12 @@ walk-returns-2 : (t : ℕ) → walk-lts.Need-returns-2 (claims t) (walk-at t) wa
 walk-returns-2 t c =
     let end = c .before in
     let row = end .before .before .before in
-    every-arrives _ _ _ _ _ _ _ _ _ (row .before .before .if1 .left) (row .if2 .taken) _ (end .arrive .ensures) (c .pack2 .ensures)
+    every-arrives _ _ _ _ _ _ _ _ _ (row .before .if1 .left) (row .if2 .taken) _ (end .arrive .ensures) (c .pack2 .ensures)
 
 walk-one-step-requires : (t : ℕ) → walk-lts.Need-one-step-requires (claims t) (walk-at t) walk.Post
 walk-one-step-requires t c κs =
     let row = c .before .before in
-    let full = row .before .before in
+    let full = row .before in
     let st = full .before in
     (st .pre .1 .0, record { some = full .if1 .left; in-table = st .pre .1 .1 .in-table; in-row = row .if2 .left })
 
@@ -77,7 +77,7 @@ walk-returns-3 t c =
     let told = c .before in
     let step = told .before .before in
     let row = step .before .before .before in
-    every-breaks _ _ _ _ _ _ _ _ _ (row .before .before .if1 .left) (row .if2 .left) _ (step .one-step .ensures) (told .enum-told .given .1) (c .pack3 .ensures)
+    every-breaks _ _ _ _ _ _ _ _ _ (row .before .if1 .left) (row .if2 .left) _ (step .one-step .ensures) (told .enum-told .given .1) (c .pack3 .ensures)
 
 walk-add-walk : (t : ℕ) → walk-lts.Need-add-walk (claims t) (walk-at t) walk.Post
 walk-add-walk t c = search needs
@@ -85,13 +85,13 @@ walk-add-walk t c = search needs
 -- what the step left is smaller
 left-smaller : (t : ℕ) (c : walk-lts.After-known-told (claims t) (walk-at t) walk.Post)
     → (let went = c .before .step .given .0 in
-    let a = c .before .before .before .before .before .before .before .before .before .args in
+    let a = c .before .before .before .before .before .before .before .before .args in
     Smaller (a .shape .d) (a .s) (a .e) (a .f) (went .0) (went .1 .0) (went .1 .1 .0))
 left-smaller t c =
     let step = c .before .before .before in
     let row = step .before .before .before in
-    let a = row .before .before .before .args in
-    told-smaller _ _ _ _ (a .shape .d) (a .s) (a .e) (a .f) _ _ _ (row .before .before .if1 .left) (row .if2 .left) (step .one-step .ensures) (c .before .step .given .1)
+    let a = row .before .before .args in
+    told-smaller _ _ _ _ (a .shape .d) (a .s) (a .e) (a .f) _ _ _ (row .before .if1 .left) (row .if2 .left) (step .one-step .ensures) (c .before .step .given .1)
 
 -- a step, and the walk on what it leaves; before what the walk asks, so that a wrong count fails here first
 walk-returns-4 : (t : ℕ) → walk-lts.Need-returns-4 (claims t) (walk-at t) walk.Post
@@ -99,12 +99,12 @@ walk-returns-4 t c =
     let went = c .before .before in
     let step = went .before .before in
     let row = step .before .before .before in
-    every-on _ _ _ _ _ _ _ _ _ (row .before .before .if1 .left) (row .if2 .left) _ _ _ _ _ (step .one-step .ensures) (went .step .given .1)
+    every-on _ _ _ _ _ _ _ _ _ (row .before .if1 .left) (row .if2 .left) _ _ _ _ _ (step .one-step .ensures) (went .step .given .1)
     (left-smaller t (c .before) .falls) (c .walk .ensures)
 
 walk-walk-requires : (t : ℕ) → walk-lts.Need-walk-requires (claims t) (walk-at t) walk.Post
 walk-walk-requires t c κs =
-    let st = c .before .before .before .before .before .before .before .before .before in
+    let st = c .before .before .before .before .before .before .before .before in
     let less = left-smaller t c in
     let going = st .pre .1 .1 in (
       omega (arith, st .pre .0, less .falls),

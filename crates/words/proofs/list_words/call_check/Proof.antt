@@ -59,7 +59,7 @@ returns-2 c =
     let called = c .before .before .before .before in
     let shaped = called .before .before in
     let ends = shaped .before .before in
-    rw (told ends .is, ← shaped .shape-in .ensures, ← called .check-list .ensures) (c .before .before .put-count .ensures)
+    rw (told ends .is) (rw (called .check-list .ensures, shaped .shape-in .ensures) at (c .before .before .put-count .ensures))
 
 pub call-check-spec : {M : Type 1} → statement M
 call-check-spec =

@@ -59,7 +59,7 @@ returns-2 c =
     let called = c .before .before .before .before in
     let shaped = called .before .before in
     let ends = shaped .before .before in
-    rw (told ends .is, ← shaped .shape-in .ensures, ← called .independence .ensures) (c .before .before .put-pair .ensures)
+    rw (told ends .is) (rw (called .independence .ensures, shaped .shape-in .ensures) at (c .before .before .put-pair .ensures))
 
 pub call-independent-spec : {M : Type 1} → statement M
 call-independent-spec =

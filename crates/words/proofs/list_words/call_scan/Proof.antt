@@ -78,7 +78,8 @@ returns-2 c =
     let shaped = called .before .before in
     let header = shaped .before in
     let ends = header .before .before .before in
-    rw (told ends .is, ← header .header-of .ensures, ← shaped .shape-in .ensures, ← called .plain-scan .ensures) (c .before .before .put-match .ensures)
+    rw (told ends .is, ← header .header-of .ensures)
+    (rw (called .plain-scan .ensures, shaped .shape-in .ensures) at (c .before .before .put-match .ensures))
 
 pub call-scan-spec : {M : Type 1} → statement M
 call-scan-spec =

@@ -5,18 +5,14 @@ use native.Mathlib.Omega.{arith}
 use Rattle.words.proofs.part.shape_in.Statement.{statement}
 use Rattle.words.proofs.part.shape_in.Tie as tie
 
-shared-slice-read-shape-of : tie.Need-shared-slice-read-shape-of
-shared-slice-read-shape-of c = search needs
+shared-slice-read-t4 : tie.Need-shared-slice-read-t4
+shared-slice-read-t4 c = search needs
 
-cast-shape-of : tie.Need-cast-shape-of
-cast-shape-of c = omega (arith, c .shared-slice-known2 .given 0)
-
-shape-of-requires : tie.Need-shape-of-requires
-shape-of-requires c κs = search needs
+cast-t5 : tie.Need-cast-t5
+cast-t5 c = omega (arith, c .shared-slice-known .given 0)
 
 returns : tie.Need-returns
 returns c = search needs
 
 pub shape-in-spec : {M : Type 1} → statement M
-shape-in-spec =
-    tie.close (tie.spec shared-slice-read-shape-of cast-shape-of shape-of-requires returns)
+shape-in-spec = tie.close (tie.spec shared-slice-read-t4 cast-t5 returns)

@@ -19,14 +19,20 @@ returns c =
     let test = c .before .before .before .before in
     rw (exact-bad 5 _ _ (test .if1 .taken)) (c .before .before .put-bad .ensures)
 
-shared-slice-read-closed : tie.Need-shared-slice-read-closed
-shared-slice-read-closed c = search needs
+shape-in-requires : tie.Need-shape-in-requires
+shape-in-requires c κs = search needs
 
-shared-slice-read-closed-2 : tie.Need-shared-slice-read-closed-2
-shared-slice-read-closed-2 c = search needs
+shared-slice-read-field-range : tie.Need-shared-slice-read-field-range
+shared-slice-read-field-range c = search needs
 
-closed-requires : tie.Need-closed-requires
-closed-requires c κs = search needs
+shared-slice-read-field-range-2 : tie.Need-shared-slice-read-field-range-2
+shared-slice-read-field-range-2 c = search needs
+
+shared-slice-read-field-range-3 : tie.Need-shared-slice-read-field-range-3
+shared-slice-read-field-range-3 c = search needs
+
+field-range-requires : tie.Need-field-range-requires
+field-range-requires c κs = search needs
 
 shared-slice-read-spot-of : tie.Need-shared-slice-read-spot-of
 shared-slice-read-spot-of c = search needs
@@ -46,8 +52,10 @@ unfolding sideSaid
 returns-2 c =
     let spot = c .before .before .before .before in
     let range = spot .before .before in
-    let test = range .before .before .before in
-    rw (exact-call 5 _ _ (test .if1 .left)) (rw (spot .spot-of .ensures, range .closed .ensures) at (c .before .before .put-spot .ensures))
+    let shape = range .before .before .before .before in
+    let test = shape .before in
+    rw (exact-call 5 _ _ (test .if1 .left))
+    (rw (spot .spot-of .ensures, range .field-range .ensures, shape .shape-in .ensures) at (c .before .before .put-spot .ensures))
 
 pub call-side-spec : {M : Type 1} → statement M
 call-side-spec =
@@ -56,9 +64,11 @@ call-side-spec =
     put-bad-requires
     same-length
     returns
-    shared-slice-read-closed
-    shared-slice-read-closed-2
-    closed-requires
+    shape-in-requires
+    shared-slice-read-field-range
+    shared-slice-read-field-range-2
+    shared-slice-read-field-range-3
+    field-range-requires
     shared-slice-read-spot-of
     spot-of-requires
     put-spot-requires

@@ -94,7 +94,7 @@ returns-2 c =
     let ends = shaped .before .before in
     let follow = ends .before .before .before .numbers-after .ensures in
     let asked = tables-asked (told ends) follow in
-    rw (← follow, told ends .is, ← shaped .shape-in .ensures) (few-more (omega (arith, asked .few)) (c .before .before .put-tabled .ensures))
+    rw (← follow, told ends .is) (few-more (omega (arith, asked .few)) (rw (shaped .shape-in .ensures) at (c .before .before .put-tabled .ensures)))
 
 pub call-table-spec : {M : Type 1} → statement M
 call-table-spec =

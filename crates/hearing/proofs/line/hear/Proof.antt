@@ -1,4 +1,4 @@
--- `calls::line::hear` meets its contract. At the loop's head the first i bytes are heard; the measure is what is left.
+-- `hearing::line::hear` meets its contract. At the loop's head the first i bytes are heard; the measure is what is left.
 -- Assumes nothing.
 use borrow.Author.Needs.{needs}
 use Prim.Native.Nat.{_≤_, _-_}
@@ -8,9 +8,9 @@ use lib.ListN.{length, getD, take}
 use lib.Seq.{take-all}
 use Rattle.text.specs.Cells.{fed}
 use Rattle.text.proofs.Feeding.{fed-more}
-use Rattle.calls.specs.Lines.{heard, heardByte}
-use Rattle.calls.proofs.line.hear.Statement.{statement}
-use Rattle.calls.proofs.line.hear.Tie as tie
+use Rattle.hearing.specs.Lines.{heard, heardByte}
+use Rattle.hearing.proofs.line.hear.Statement.{statement}
+use Rattle.hearing.proofs.line.hear.Tie as tie
 
 abbrev Inv-loop : tie.InvT-loop
 Inv-loop bytes name₀ numbers₀ present₀ i₀ name numbers present i =

@@ -1,4 +1,4 @@
--- `calls::line::line_in` meets its contract. At the loop's head no byte before i is LF; the measure is what is left.
+-- `hearing::line::line_in` meets its contract. At the loop's head no byte before i is LF; the measure is what is left.
 -- Assumes nothing.
 use borrow.Author.Needs.{needs}
 use Prim.Native.Nat.{ℕ, _≤_, _<_, _-_}
@@ -6,9 +6,9 @@ use mathlib.Core.Path.{_≡_, sym, _∙_}
 use native.Mathlib.Omega.{arith}
 use borrow.Author.Count.{below-more}
 use lib.ListN.{length, getD}
-use Rattle.calls.proofs.Lines.{line-ends, line-none}
-use Rattle.calls.proofs.line.line_in.Statement.{statement}
-use Rattle.calls.proofs.line.line_in.Tie as tie
+use Rattle.hearing.proofs.Lines.{line-ends, line-none}
+use Rattle.hearing.proofs.line.line_in.Statement.{statement}
+use Rattle.hearing.proofs.line.line_in.Tie as tie
 
 abbrev Inv-loop : tie.InvT-loop
 Inv-loop bytes i₀ i = (i ≤ length bytes) × ((k : ℕ) → k < i → getD bytes k 0 ≡ 10 → ⊥)

@@ -1,9 +1,9 @@
--- `calls::line::line_byte` meets its contract: each way out is the law of its case.
+-- `hearing::line::line_byte` meets its contract: each way out is the law of its case.
 -- Assumes nothing.
 use borrow.Author.Needs.{needs}
-use Rattle.calls.proofs.Lines.{number-ends, number-takes, name-ends, name-takes}
-use Rattle.calls.proofs.line.line_byte.Statement.{statement}
-use Rattle.calls.proofs.line.line_byte.Tie as tie
+use Rattle.hearing.proofs.Lines.{number-ends, number-takes, name-ends, name-takes}
+use Rattle.hearing.proofs.line.line_byte.Statement.{statement}
+use Rattle.hearing.proofs.line.line_byte.Tie as tie
 
 row-next-requires : tie.Need-row-next-requires
 row-next-requires c κs = search needs
@@ -18,13 +18,13 @@ returns c =
     let test = ended .before .before in
     number-ends _ _ _ _ (test .before .if1 .taken) (test .if2 .taken) (ended .row-next .ensures .0) (ended .row-next .ensures .1)
 
-row-byte-requires : tie.Need-row-byte-requires
-row-byte-requires c κs = search needs
+number-byte-requires : tie.Need-number-byte-requires
+number-byte-requires c κs = search needs
 
 -- a number takes a byte
 returns-2 : tie.Need-returns-2
 returns-2 c =
-    number-takes _ _ _ _ (c .before .before .if1 .taken) (c .before .if2 .left) (c .row-byte .ensures)
+    number-takes _ _ _ _ (c .before .before .if1 .taken) (c .before .if2 .left) (c .number-byte .ensures)
 
 -- the name ends
 returns-3 : tie.Need-returns-3
@@ -50,7 +50,7 @@ line-byte-spec =
     row-next-requires
     same-length
     returns
-    row-byte-requires
+    number-byte-requires
     returns-2
     returns-3
     put-byte-requires

@@ -1,5 +1,8 @@
-// A line as far as its bytes have come: its first word, and the numbers after it. The word's bytes and the numbers go
-// to lent runs; what is held by value says how far each has come.
+// A line as far as its bytes have come: its first word, and the numbers after it, the first of which may have flags. The word's
+// bytes and the numbers go to lent runs; what is held by value says how far each has come.
+use crate::flags::Flags;
+use crate::flags::flags_byte;
+use crate::flags::has_colon;
 use text::put::put_byte;
 use text::row::Row;
 use text::row::row_byte;
@@ -7,13 +10,14 @@ use text::row::row_next;
 use text::row::row_start;
 ghost use mathlib.Core.Path.{_≡_};
 ghost use Rattle.text.specs.Cells.{fed};
-ghost use Rattle.calls.specs.Lines.{heard, unheard, heardByte, lineIn};
+ghost use Rattle.hearing.specs.Lines.{heard, unheard, numberWith, heardByte, lineIn};
 
 // What has been heard of a line: whether a blank has ended its first word, how many of that word's bytes stand in
-// the run lent for them, and the line of numbers after it.
+// the run lent for them, the flags of the first number after it, and the line of those numbers.
 pub struct Line {
     pub named: bool,
     pub length: usize,
+    pub flags: Flags,
     pub row: Row,
 }
 
@@ -24,7 +28,47 @@ pub fn line_start() -> Line
     Line {
         named: false,
         length: 0,
+        flags: Flags::Without,
         row: row_start(),
+    }
+}
+
+// Gives the line with one byte more of a number: in the first, a colon begins the flags, and what follows belongs to them.
+fn number_byte(line: Line, byte: u8) -> Line
+    ensures { λ r. ⌜ r ≡ numberWith line byte ⌝ }
+{
+    let row = line.row;
+    let length = line.length;
+    let flags = line.flags;
+    if row.cells != 0 {
+        return Line {
+            named: true,
+            length,
+            flags,
+            row: row_byte(row, byte),
+        };
+    }
+    if has_colon(flags) {
+        return Line {
+            named: true,
+            length,
+            flags: flags_byte(flags, byte),
+            row,
+        };
+    }
+    if byte == b':' {
+        return Line {
+            named: true,
+            length,
+            flags: Flags::Read { count: 0, dates: 0 },
+            row,
+        };
+    }
+    Line {
+        named: true,
+        length,
+        flags,
+        row: row_byte(row, byte),
     }
 }
 
@@ -37,30 +81,30 @@ fn line_byte(line: Line, byte: u8, name: &mut [u8], numbers: &mut [u32]) -> Line
 {
     let row = line.row;
     let length = line.length;
+    let flags = line.flags;
     if line.named {
         if byte == b' ' {
             return Line {
                 named: true,
                 length,
+                flags,
                 row: row_next(row, 0, numbers),
             };
         }
-        return Line {
-            named: true,
-            length,
-            row: row_byte(row, byte),
-        };
+        return number_byte(line, byte);
     }
     if byte == b' ' {
         return Line {
             named: true,
             length,
+            flags,
             row,
         };
     }
     Line {
         named: false,
         length: put_byte(byte, name, length),
+        flags,
         row,
     }
 }
