@@ -10,7 +10,7 @@
 -- `specs/Replies.antt`). What is left to testing is that `serve` hands each the bytes that were read, and writes the bytes that were
 -- put.
 -- Assumes nothing.
-use Prim.Native.Nat.{ℕ, _/_, _%_, _^_, _≤_, _<_}
+use Prim.Native.Nat.{ℕ, _+_, _*_, _/_, _%_, _^_, _≤_, _<_}
 use mathlib.Core.Bool.{Bool, true, false}
 use mathlib.Core.List.{List, [], _∷_, flatten}
 use mathlib.Core.Path.{_≡_, refl, sym, ap, _∙_}
@@ -25,8 +25,8 @@ use Rattle.lists.proofs.Dates.{flag-by}
 use Rattle.text.specs.Cells.{fed}
 use Rattle.words.specs.Limits.{lineRoom, nameRoom}
 use Rattle.hearing.specs.Lines.{heard, unheard, heardByte}
-use Rattle.hearing.specs.Flags.{datesFrom}
-use Rattle.hearing.proofs.Dates.{oneOf, one-few, eight-flags}
+use Rattle.hearing.specs.Flags.{oneOf, datesFrom}
+use Rattle.hearing.proofs.Dates.{one-few, eight-flags}
 use Rattle.calls.specs.Answers.{answerTo, answerSaid}
 use Rattle.calls.specs.Input.{inputLines, inputSaid, piecesSaid}
 use Rattle.calls.proofs.Hearing as hearing
@@ -54,6 +54,32 @@ flag-bit s f t lt is = sym (flag-by s f lt) ∙ ap (λ b. eqb b 1) is ∙ one t
     one true = refl
     one false = refl
 
+-- the bits of a number that is so put together
+record Bits (v a b c d e f g h : ℕ) : Type 0 where
+  bit-0 : v / 2 ^ 0 % 2 ≡ a
+  bit-1 : v / 2 ^ 1 % 2 ≡ b
+  bit-2 : v / 2 ^ 2 % 2 ≡ c
+  bit-3 : v / 2 ^ 3 % 2 ≡ d
+  bit-4 : v / 2 ^ 4 % 2 ≡ e
+  bit-5 : v / 2 ^ 5 % 2 ≡ f
+  bit-6 : v / 2 ^ 6 % 2 ≡ g
+  bit-7 : v / 2 ^ 7 % 2 ≡ h
+
+eight-bits : (v a b c d e f g h : ℕ) → v ≡ a + b * 2 + c * 4 + d * 8 + e * 16 + f * 32 + g * 64 + h * 128
+    → a ≤ 1 → b ≤ 1 → c ≤ 1 → d ≤ 1 → e ≤ 1 → f ≤ 1 → g ≤ 1 → h ≤ 1
+    → Bits v a b c d e f g h
+eight-bits v a b c d e f g h sum la lb lc ld le lf lg lh =
+    record {
+      bit-0 = omega arith;
+      bit-1 = omega arith;
+      bit-2 = omega arith;
+      bit-3 = omega arith;
+      bit-4 = omega arith;
+      bit-5 = omega arith;
+      bit-6 = omega arith;
+      bit-7 = omega arith;
+    }
+
 -- a flag is set exactly where its character is 1, which is 49
 pub record InOrder (s : Shape) (a b c d e f g h : ℕ) : Type 0 where
   pub field-0 : flagOf s 0 ≡ eqb a 49
@@ -69,15 +95,15 @@ pub flags-in-order : (fields a b c d e f g h : ℕ)
     → InOrder record { d = fields; dates = datesFrom 0 (a ∷ b ∷ c ∷ d ∷ e ∷ f ∷ g ∷ h ∷ []) } a b c d e f g h
 flags-in-order fields a b c d e f g h =
     let s : Shape = record { d = fields; dates = datesFrom 0 (a ∷ b ∷ c ∷ d ∷ e ∷ f ∷ g ∷ h ∷ []) } in
-    let sum = eight-flags a b c d e f g h in
-    let few : (oneOf a ≤ 1) × (oneOf b ≤ 1) × (oneOf c ≤ 1) × (oneOf d ≤ 1) × (oneOf e ≤ 1) × (oneOf f ≤ 1) × (oneOf g ≤ 1) × (oneOf h ≤ 1) = (one-few a, one-few b, one-few c, one-few d, one-few e, one-few f, one-few g, one-few h) in
+    let bits = eight-bits (s .dates) (oneOf a) (oneOf b) (oneOf c) (oneOf d) (oneOf e) (oneOf f) (oneOf g) (oneOf h)
+    (eight-flags a b c d e f g h) (one-few a) (one-few b) (one-few c) (one-few d) (one-few e) (one-few f) (one-few g) (one-few h) in
     record {
-      field-0 = flag-bit s 0 (eqb a 49) (omega arith) (omega (arith, sum, few));
-      field-1 = flag-bit s 1 (eqb b 49) (omega arith) (omega (arith, sum, few));
-      field-2 = flag-bit s 2 (eqb c 49) (omega arith) (omega (arith, sum, few));
-      field-3 = flag-bit s 3 (eqb d 49) (omega arith) (omega (arith, sum, few));
-      field-4 = flag-bit s 4 (eqb e 49) (omega arith) (omega (arith, sum, few));
-      field-5 = flag-bit s 5 (eqb f 49) (omega arith) (omega (arith, sum, few));
-      field-6 = flag-bit s 6 (eqb g 49) (omega arith) (omega (arith, sum, few));
-      field-7 = flag-bit s 7 (eqb h 49) (omega arith) (omega (arith, sum, few));
+      field-0 = flag-bit s 0 (eqb a 49) (omega arith) (bits .bit-0);
+      field-1 = flag-bit s 1 (eqb b 49) (omega arith) (bits .bit-1);
+      field-2 = flag-bit s 2 (eqb c 49) (omega arith) (bits .bit-2);
+      field-3 = flag-bit s 3 (eqb d 49) (omega arith) (bits .bit-3);
+      field-4 = flag-bit s 4 (eqb e 49) (omega arith) (bits .bit-4);
+      field-5 = flag-bit s 5 (eqb f 49) (omega arith) (bits .bit-5);
+      field-6 = flag-bit s 6 (eqb g 49) (omega arith) (bits .bit-6);
+      field-7 = flag-bit s 7 (eqb h 49) (omega arith) (bits .bit-7);
     }

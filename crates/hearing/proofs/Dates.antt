@@ -3,9 +3,9 @@
 --     read-all, read-few                            at the word's end
 --     colon-stays                                   what has begun has begun
 --     wordFlags, flags-are                          a word's flags, byte by byte, come to what they are
---     oneOf, one-few, eight-flags                   eight flags as a number: the first stands lowest
+--     one-few, eight-flags                          eight flags as a number: the first stands lowest
 -- Assumes nothing.
-use Prim.Native.Nat.{ℕ, suc, _+_, _*_, _/_, _≤_, _<_}
+use Prim.Native.Nat.{ℕ, suc, _+_, _*_, _≤_, _<_}
 use mathlib.Core.Bool.{Bool, true, false}
 use mathlib.Core.List.{List, [], _∷_}
 use mathlib.Core.Path.{_≡_, refl, ap, _∙_}
@@ -16,7 +16,7 @@ use lib.ListN.{length}
 use Rattle.ranges.specs.Numbers.{pick, _and_, _or_, bit}
 use Rattle.ranges.proofs.Numbers.{and-fails}
 use Rattle.text.specs.Cells.{fed}
-use Rattle.hearing.specs.Flags.{allFlags, datesFrom, wholeFlags, flagsIn, flagWith, flagsWith, hasColon, allRead, flagsEnded}
+use Rattle.hearing.specs.Flags.{allFlags, oneOf, nextFlag, datesFrom, wholeFlags, flagsIn, flagWith, flagsWith, hasColon, allRead, flagsEnded}
 use Rattle.hearing.specs.declared.flags.Flags.{Flags}
 use Rattle.hearing.specs.declared.flags.Flags.the-variants.{Without, Read, Bad}
 
@@ -27,14 +27,14 @@ module _ (c v b : ℕ) where
   flag-many many = rw (le-leb 8 c many)
 
   module _ (few : c < 8) where
-    pub flag-off : b ≡ 48 → Read (c + 1) (v / 2) ≡ flagWith c v b
+    pub flag-off : b ≡ 48 → {w : ℕ} → w ≡ nextFlag v 0 → Read (c + 1) w ≡ flagWith c v b
     unfolding flagWith
-    flag-off off = rw (lt-leb 8 c few, eq-eqb b 48 off)
+    flag-off off is = rw (lt-leb 8 c few, eq-eqb b 48 off, is)
 
     module _ (not-off : b ≡ 48 → ⊥) where
-      pub flag-on : b ≡ 49 → Read (c + 1) (v / 2 + 128) ≡ flagWith c v b
+      pub flag-on : b ≡ 49 → {w : ℕ} → w ≡ nextFlag v 1 → Read (c + 1) w ≡ flagWith c v b
       unfolding flagWith
-      flag-on on = rw (lt-leb 8 c few, ne-eqb b 48 not-off, eq-eqb b 49 on)
+      flag-on on is = rw (lt-leb 8 c few, ne-eqb b 48 not-off, eq-eqb b 49 on, is)
 
       pub flag-other : (b ≡ 49 → ⊥) → Bad ≡ flagWith c v b
       unfolding flagWith
@@ -55,7 +55,7 @@ colon-more : (c v b : ℕ) → hasColon (flagWith c v b) ≡ true
 unfolding flagWith
 colon-more c v b = go (leb 8 c) (eqb b 48) (eqb b 49)
   where
-    go : (s t u : Bool) → hasColon (pick s Bad (pick t (Read (c + 1) (v / 2)) (pick u (Read (c + 1) (v / 2 + 128)) Bad))) ≡ true
+    go : (s t u : Bool) → hasColon (pick s Bad (pick t (Read (c + 1) (nextFlag v 0)) (pick u (Read (c + 1) (nextFlag v 1)) Bad))) ≡ true
     go true t u = refl
     go false true u = refl
     go false false true = refl
@@ -103,14 +103,14 @@ flags-from (b ∷ bs) c v le = go (leb 8 c) (eqb b 48) (eqb b 49) refl refl refl
 
     go : (s t u : Bool) → leb 8 c ≡ s → eqb b 48 ≡ t → eqb b 49 ≡ u
         → ((w : ℕ) → c + 1 ≤ 8 → flagsEnded (fed flagsWith (Read (c + 1) w) bs) ≡ cameTo (c + 1) w bs)
-        → flagsEnded (fed flagsWith (pick s Bad (pick t (Read (c + 1) (v / 2)) (pick u (Read (c + 1) (v / 2 + 128)) Bad))) bs)
-        ≡ pick (eqb (c + suc n) 8 and (t or u) and allFlags bs) (Read 8 (datesFrom (pick u (v / 2 + 128) (v / 2)) bs)) Bad
+        → flagsEnded (fed flagsWith (pick s Bad (pick t (Read (c + 1) (nextFlag v 0)) (pick u (Read (c + 1) (nextFlag v 1)) Bad))) bs)
+        ≡ pick (eqb (c + suc n) 8 and (t or u) and allFlags bs) (Read 8 (datesFrom (nextFlag v (bit u)) bs)) Bad
     go true t u p q r follow =
         let over : c + suc n ≡ 8 → ⊥ = λ z. let many = leb-true 8 c p in omega arith in
         rw (ne-eqb (c + suc n) 8 over) (bad-stays bs)
     go false true true p q r follow = absurd (let z = eqb-true b 48 q in let o = eqb-true b 49 r in omega arith)
-    go false true false p q r follow = let few = leb-false 8 c p in follow (v / 2) (omega arith) ∙ one-more c (v / 2) bs
-    go false false true p q r follow = let few = leb-false 8 c p in follow (v / 2 + 128) (omega arith) ∙ one-more c (v / 2 + 128) bs
+    go false true false p q r follow = let few = leb-false 8 c p in follow (nextFlag v 0) (omega arith) ∙ one-more c (nextFlag v 0) bs
+    go false false true p q r follow = let few = leb-false 8 c p in follow (nextFlag v 1) (omega arith) ∙ one-more c (nextFlag v 1) bs
     go false false false p q r follow = rw (and-fails (eqb (c + suc n) 8) false refl) (bad-stays bs)
 
 pub flags-are : (c : List ℕ) → flagsEnded (wordFlags c) ≡ flagsIn c
@@ -125,10 +125,6 @@ flags-are (b ∷ bs) = go (eqb b 58) (flags-are bs)
     go false rest = rest
 
 -- ---- the number that eight flags make
--- 1 for the character 1
-abbrev pub oneOf : ℕ → ℕ
-oneOf b = bit (eqb b 49)
-
 pub one-few : (b : ℕ) → oneOf b ≤ 1
 one-few b = go (eqb b 49)
   where
@@ -136,16 +132,9 @@ one-few b = go (eqb b 49)
     go true = omega arith
     go false = omega arith
 
--- a flag more, as a sum
-flag-sum : (v b : ℕ) → pick (eqb b 49) (v / 2 + 128) (v / 2) ≡ v / 2 + oneOf b * 128
-flag-sum v b = go (eqb b 49)
-  where
-    go : (t : Bool) → pick t (v / 2 + 128) (v / 2) ≡ v / 2 + bit t * 128
-    go true = omega arith
-    go false = omega arith
-
-dates-next : (v w b : ℕ) (bs : List ℕ) → v / 2 + oneOf b * 128 ≡ w → datesFrom v (b ∷ bs) ≡ datesFrom w bs
-dates-next v w b bs is = ap (λ x. datesFrom x bs) (flag-sum v b ∙ is)
+-- a flag more
+dates-next : (v w b : ℕ) (bs : List ℕ) → nextFlag v (oneOf b) ≡ w → datesFrom v (b ∷ bs) ≡ datesFrom w bs
+dates-next v w b bs is = ap (λ x. datesFrom x bs) is
 
 -- the first stands lowest, and each of the others a bit higher than the one before it
 pub eight-flags : (a b c d e f g h : ℕ) → datesFrom 0 (a ∷ b ∷ c ∷ d ∷ e ∷ f ∷ g ∷ h ∷ [])

@@ -15,7 +15,7 @@ use Rattle.ranges.specs.Numbers.{pick}
 use Rattle.text.specs.Cells.{fed}
 use Rattle.text.specs.Rows.{inFront, cellsIn, countedTo, oneMore, rowNext, Reading, ended, within, readByte}
 use Rattle.hearing.specs.Flags.{numberIn, flagsWith, hasColon}
-use Rattle.hearing.specs.Lines.{Heard, heard, lineOf, cellWith, flagged, firstWith, numberWith, numberEnds, heardByte}
+use Rattle.hearing.specs.Lines.{Heard, heard, lineOf, cellWith, firstWith, numberWith, numberEnds, heardByte}
 use Rattle.ranges.proofs.Numbers.{never}
 use Rattle.hearing.specs.declared.line.Line.{Line}
 use Rattle.hearing.specs.declared.flags.Flags.{Flags}

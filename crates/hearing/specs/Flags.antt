@@ -2,12 +2,12 @@
 -- `flagsIn` says what a whole word's flags come to, and `numberIn` what is left of it. `flagsWith` says the same byte by byte, as the
 -- code goes; that the two agree is `flags-are` of `proofs/Dates.antt`. 48 is 0, 49 is 1, 58 is the colon.
 -- Assumes nothing: these are definitions.
-use Prim.Native.Nat.{ℕ, _+_, _/_}
+use Prim.Native.Nat.{ℕ, _+_, _*_, _/_}
 use mathlib.Core.Bool.{Bool, true, false}
 use mathlib.Core.List.{List, [], _∷_}
 use lib.Dec.{leb, eqb}
 use lib.ListN.{length}
-use Rattle.ranges.specs.Numbers.{pick, _and_, _or_}
+use Rattle.ranges.specs.Numbers.{pick, _and_, _or_, bit}
 use Rattle.hearing.specs.declared.flags.Flags.{Flags}
 use Rattle.hearing.specs.declared.flags.Flags.the-variants.{Without, Read, Bad}
 
@@ -17,11 +17,18 @@ abbrev pub allFlags : List ℕ → Bool
 allFlags [] = true
 allFlags (b ∷ bs) = (eqb b 48 or eqb b 49) and allFlags bs
 
--- the flags as a number, where v are those before them: each moves the others down by a bit and comes to stand in the eighth, so that
--- of eight the first stands lowest (of 1, 1, 0, 0, 0, 0, 0, 0 it is 3)
+-- 1 for the character 1
+abbrev pub oneOf : ℕ → ℕ
+oneOf b = bit (eqb b 49)
+
+-- the flags as a number with one more, x: it moves those before it down by a bit and comes to stand in the eighth
+abbrev pub nextFlag : ℕ → ℕ → ℕ
+nextFlag v x = v / 2 + x * 128
+
+-- with these more: of eight the first stands lowest (of 1, 1, 0, 0, 0, 0, 0, 0 it is 3)
 abbrev pub datesFrom : ℕ → List ℕ → ℕ
 datesFrom v [] = v
-datesFrom v (b ∷ bs) = datesFrom (pick (eqb b 49) (v / 2 + 128) (v / 2)) bs
+datesFrom v (b ∷ bs) = datesFrom (nextFlag v (oneOf b)) bs
 
 -- what the bytes after a colon come to: eight flags, or bad ones
 unfoldable pub wholeFlags : List ℕ → Flags
@@ -48,8 +55,8 @@ datesOf Bad = 0
 unfoldable pub flagWith : ℕ → ℕ → ℕ → Flags
 flagWith c v b =
     pick (leb 8 c) Bad
-    (pick (eqb b 48) (Read (c + 1) (v / 2))
-    (pick (eqb b 49) (Read (c + 1) (v / 2 + 128))
+    (pick (eqb b 48) (Read (c + 1) (nextFlag v 0))
+    (pick (eqb b 49) (Read (c + 1) (nextFlag v 1))
     Bad))
 
 -- with one byte more

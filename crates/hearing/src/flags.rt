@@ -1,6 +1,7 @@
 // The flags of D, as far as their bytes have come: D:FFFFFFFF, eight characters 0 or 1, the first for field 0.
 ghost use mathlib.Core.Path.{_≡_};
-ghost use Rattle.hearing.specs.Flags.{flagWith, flagsWith, hasColon, allRead, flagsEnded, datesOf};
+ghost use Prim.Native.Nat.{_≤_};
+ghost use Rattle.hearing.specs.Flags.{nextFlag, flagWith, flagsWith, hasColon, allRead, flagsEnded, datesOf};
 
 // How many flags there are.
 const FLAGS: u32 = 8;
@@ -15,8 +16,16 @@ pub enum Flags {
     Bad,
 }
 
-// Gives the flags with one more. It moves those before it down by a bit and comes to stand in the eighth: so of eight the first
-// stands lowest.
+// Gives the flags as a number with one more, 1 where it is set, else 0. It moves those before it down by a bit and comes to stand
+// in the eighth: so of eight the first stands lowest.
+fn next_flag(dates: u32, flag: u32) -> u32
+    requires { ⌜ flag ≤ 1 ⌝ }
+    ensures { λ r. ⌜ r ≡ nextFlag dates flag ⌝ }
+{
+    dates / 2 + flag * 128
+}
+
+// Gives the flags with one byte more, which has to be 0 or 1, where there are not eight yet.
 fn flag_byte(count: u32, dates: u32, byte: u8) -> Flags
     ensures { λ r. ⌜ r ≡ flagWith count dates byte ⌝ }
 {
@@ -26,13 +35,13 @@ fn flag_byte(count: u32, dates: u32, byte: u8) -> Flags
     if byte == b'0' {
         return Flags::Read {
             count: count + 1,
-            dates: dates / 2,
+            dates: next_flag(dates, 0),
         };
     }
     if byte == b'1' {
         return Flags::Read {
             count: count + 1,
-            dates: dates / 2 + 128,
+            dates: next_flag(dates, 1),
         };
     }
     Flags::Bad

@@ -10,13 +10,11 @@ use Prim.Native.Nat.{ℕ, _/_, _%_, _^_, _≤_, _<_}
 use mathlib.Core.Bool.{Bool, true, false}
 use mathlib.Core.List.{List}
 use mathlib.Core.Path.{_≡_, refl, sym, ap, _∙_}
-use native.Mathlib.Omega.{arith}
 use native.Mathlib.Nat.{zero-div}
 use borrow.Author.Tests.{lt-ltb, le-ltb}
 use lib.Dec.{ltb, eqb}
-use lib.ListN.{getD}
 use Rattle.ranges.specs.Numbers.{_and_, bit, tab}
-use Rattle.ranges.specs.Sides.{endOf, closedAt, pastOf, rangeOf}
+use Rattle.ranges.specs.Sides.{endOf, closedAt, rangeOf}
 use Rattle.ranges.proofs.Numbers.{and-fails, tab-at, tab-same, tab-zero}
 use Rattle.ranges.proofs.Sides.{past-date, past-other}
 use Rattle.lists.specs.Limits.{mostFields}

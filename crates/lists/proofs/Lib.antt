@@ -4,7 +4,7 @@
 -- Rules: where a rule's numbers stand, and what a list of the right shape is.
 -- InList: which rules a list has.
 -- Faults: which refusal of 1 to 4 a list meets.
--- Voids: of the refusal 4, low > high in a field, in a rule, in a list.
+-- Voids: of the refusal 4, a range that holds no number, in a field, in a rule, in a list.
 -- Sound: what a list is that meets none of 1 to 4.
 -- Fitting: of what fits a header.
 -- Edges: of a rule's fields at an end of their ranges.

@@ -1,4 +1,4 @@
--- What a list is that meets none of the refusals 1 to 4 (`specs/Faults.antt`): its shape stands, and low ≤ high everywhere.
+-- What a list is that meets none of the refusals 1 to 4 (`specs/Faults.antt`): its shape stands, and every range holds a number.
 --     Sound                        low is less than the first number past the range, in each field of each rule
 --     ends-sound, sound-ends       a list that does not meet 4 is sound, and a sound one does not meet 4
 --     list-shaped, list-sound      of a list that meets none of 1 to 4: its shape, its ranges
@@ -19,7 +19,7 @@ use Rattle.lists.proofs.Search.{Answered}
 use Rattle.lists.proofs.Faults.{shaped, shape-of, ends-of, shape-stands}
 use Rattle.lists.proofs.Voids.{bad, SoundRule, not-bad, sound-not-bad, ends-stands}
 
--- low ≤ high in each field of each rule
+-- each range of each rule holds a number
 pub record Sound (R : Rules) : Type 0 where
   pub ends : (i f : ℕ) → i < rulesIn R → f < fieldsOf R → lowOf R i f < endsAt R i f
 
@@ -50,7 +50,7 @@ module _ (R : Rules) where
   list-sound z = ends-sound (ends-of R z)
 
 -- ---- none of 1 to 4 applies
--- d is 1 to 8, the length is n * d * 2, n is at most 1,024, and low ≤ high everywhere
+-- d is 1 to 8, the length is n * d * 2, n is at most 1,024, and every range holds a number
 pub record Accepted (R : Rules) : Type 0 where
   pub shape : Shaped R
   pub ranges : Sound R

@@ -19,6 +19,7 @@
 --                                 the same answer and leaves the same table
 --         date-ends-before-high   a range of dates ends before its high ..
 --         plain-ends-with-high    .. and every range of a list without flags with it
+--         equal-highs-iff         highs of one field are equal exactly when their ends are, so that ranges are equal as 01 has it
 --
 -- The contracts of `check_list`, `plain_scan`, `rule_fits`, `independence` and `rule_edge` are equations with the definitions named here, so each
 -- statement is one on the function. A header is any list of numbers, but for the two statements of T8 that say otherwise: what is said of
@@ -38,9 +39,10 @@ use Rattle.ranges.specs.Sides.{endOf}
 use Rattle.ranges.specs.Refusals.{none, stands, refusedAt, LowAboveHigh}
 use Rattle.ranges.specs.declared.refusal.Refusal.{Refusal}
 use Rattle.ranges.specs.declared.refusal.Count.the-variants.{Is, Refused as CountRefused}
+use Rattle.ranges.proofs.Sides.{past-one}
 use Rattle.ranges.proofs.Numbers.{never, picked, not-picked, and-left, and-right, least-is, least-none, least-hit, least-under}
 use Rattle.lists.specs.declared.shape.Shape.{Shape}
-use Rattle.lists.specs.Rules.{Rules, Shaped, shapeOf, flagOf, listed, fieldsOf, rulesIn, lowOf, highOf, endsAt, isVoid}
+use Rattle.lists.specs.Rules.{Rules, Shaped, shapeOf, flagOf, listed, isDate, fieldsOf, rulesIn, lowOf, highOf, endsAt, isVoid}
 use Rattle.lists.specs.Faults.{inList, shapeFault, endsFault, listFault, badRule}
 use Rattle.lists.specs.Check.{checkOf}
 use Rattle.lists.specs.Headers.{headerLength, IsHeader}
@@ -69,7 +71,7 @@ check-is-n-iff R = (
   λ s. rw (accepted-none R s),
 )
 
--- the place of refusal 4: low > high in field f of rule i, and in no rule before it, nor in a field before it
+-- the place of refusal 4: the range in field f of rule i holds no number, and none does so in a rule before it, nor in a field before it
 pub record LeastVoid (R : Rules) (i f : ℕ) : Type 0 where
   pub shape : Shaped R
   pub rule : i < rulesIn R
@@ -110,7 +112,8 @@ ends-least R i f s e =
     moved : (b v : ℕ) → b ≡ i → v ≡ f → LeastVoid R b v → LeastVoid R i f
     moved b v is-i is-f here = rw (← is-i, ← is-f) here
 
--- 4 is given exactly at the smallest rule number with low > high, and there at its smallest such field, and only where 1, 2, 3 do not apply
+-- 4 is given exactly at the smallest rule number with a range that holds no number, and there at its smallest such field, and only where 1, 2, 3
+-- do not apply
 pub check-4-iff : (R : Rules) (i f : ℕ) → (checkOf R ≡ CountRefused (refusedAt LowAboveHigh i f)) ↔ LeastVoid R i f
 check-4-iff R i f = (λ e. to (refusal e), fro)
   where
@@ -182,7 +185,7 @@ module _ (R : Rules) (h : List ℕ) where
         λ p. rw (accepted-none R (p .0), least-none (fits R h) n (p .1), le-ltb n n (omega arith)),
       )
 
--- rule i is one of the list, and low ≤ number ≤ high in all d fields
+-- rule i is one of the list, and its range holds the number in all d fields
 pub record FitsRule (R : Rules) (h : List ℕ) (i : ℕ) : Type 0 where
   pub listed : Listed R i
   pub inside : (f : ℕ) → f < fieldsOf R → Inside R h i f
@@ -304,3 +307,8 @@ date-ends-before-high s l i f in-row flag = date-ends (listed s l) i f (date-fla
 
 pub plain-ends-with-high : (d : ℕ) (l : List ℕ) (i f : ℕ) → endsAt (listed (shapeOf d) l) i f ≡ endOf (highOf (listed (shapeOf d) l) i f)
 plain-ends-with-high = ends-plain
+
+-- a field is a date for every rule or for none
+pub equal-highs-iff : (R : Rules) (i j f : ℕ) → (endsAt R i f ≡ endsAt R j f) ↔ (highOf R i f ≡ highOf R j f)
+unfolding endsAt
+equal-highs-iff R i j f = past-one (isDate R f) (highOf R i f) (highOf R j f)

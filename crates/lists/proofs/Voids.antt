@@ -1,4 +1,4 @@
--- Laws of the refusal 4 (`specs/Faults.antt`): a range whose low is greater than its high, in a field, in a rule, in a list.
+-- Laws of the refusal 4 (`specs/Faults.antt`): a range that holds no number, in a field, in a rule, in a list.
 --     void-read            the code's test of a range
 --     bad-yes, bad-no      a rule with such a field, and one without; `bad-field`: it then has a smallest
 --     ends-4, ends-stands  the refusal, at the rule and field where the search for it ends, and none
@@ -23,7 +23,7 @@ use Rattle.lists.proofs.Search.{Answered, answered-least, answered-end}
 pub void-read : (R : Rules) (i f : ℕ) (g : Range) → g ≡ rangeAt R i f → (t : Bool) → t ≡ voidOf (g .low) (g .past) → t ≡ isVoid R i f
 void-read R i f g is-range t is-t = is-t ∙ ap (λ k. voidOf (k .low) (k .past)) is-range
 
--- low > high in some field of rule i
+-- some range of rule i holds no number
 abbrev pub bad : Rules → ℕ → Bool
 bad R i = not (soundRule R i)
 

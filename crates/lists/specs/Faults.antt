@@ -34,15 +34,15 @@ shapeFault R =
     (pick (tooManyRules R) (refused TooManyRules)
     none))
 
--- low > high in no field of rule i
+-- every range of rule i holds a number
 abbrev pub soundRule : Rules → ℕ → Bool
 soundRule R i = all (fieldsOf R) (λ f. not (isVoid R i f))
 
--- the smallest rule number with low > high in some field, and n where there is none
+-- the smallest rule number with a range that holds no number, and n where there is none
 unfoldable pub badRule : Rules → ℕ
 badRule R = least (rulesIn R) (λ i. not (soundRule R i))
 
--- 4: some low > high; its place is the smallest such rule number, then its smallest such field
+-- 4: some range holds no number; its place is the smallest such rule number, then its smallest such field
 unfoldable pub endsFault : Rules → Refusal
 endsFault R =
     pick (ltb (badRule R) (rulesIn R))

@@ -1,5 +1,5 @@
--- First match: source 004, Section III, as 01, Lists and headers, fixes it. A rule fits a header when low ≤ number ≤ high
--- in all d fields; the first match is the smallest rule number that fits.
+-- First match: source 004, Section III, as 01, Lists and headers, fixes it. A rule fits a header when in all d
+-- fields low ≤ number ≤ high, or of a date low ≤ number < high (02, W8); the first match is the smallest rule number that fits.
 -- A header is a list of its eight numbers; only the first d are read.
 -- Assumes nothing: these are definitions.
 use Prim.Native.Nat.{ℕ}

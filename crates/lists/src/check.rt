@@ -15,7 +15,7 @@ ghost use Rattle.lists.specs.Asked.{HasRule, HasField};
 ghost use Rattle.lists.specs.Faults.{endsFault, listFault};
 ghost use Rattle.lists.specs.Check.{checkOf};
 
-// Says whether the range of rule i in field f holds no number: low > high.
+// Says whether the range of rule i in field f holds no number: low > high, of a date low ≥ high.
 fn void_at(shape: Shape, list: &[u32], i: u16, f: u16) -> bool
     requires { ⌜ HasField (listed shape (now list)) i f ⌝ }
     ensures { λ r. ⌜ r ≡ isVoid (listed shape (now (list .entry))) i f ⌝ }
@@ -23,7 +23,7 @@ fn void_at(shape: Shape, list: &[u32], i: u16, f: u16) -> bool
     is_void(range_at(shape, list, i, f))
 }
 
-// Gives the smallest field of rule i with low > high, and d where there is none.
+// Gives the smallest field of rule i whose range holds no number, and d where there is none.
 fn void_field(shape: Shape, list: &[u32], i: u16) -> u16
     requires { ⌜ HasRule (listed shape (now list)) i ⌝ }
     ensures { λ r. ⌜ r ≡ least (shape .d) (isVoid (listed shape (now (list .entry))) i) ⌝ }
@@ -39,8 +39,8 @@ fn void_field(shape: Shape, list: &[u32], i: u16) -> u16
     d
 }
 
-// Gives the refusal 4 of a list whose shape stands, at the smallest rule number with low > high and then its smallest
-// such field, or the one that refuses nothing.
+// Gives the refusal 4 of a list whose shape stands, at the smallest rule number with a range that holds no number and then
+// its smallest such field, or the one that refuses nothing.
 fn ends_fault(shape: Shape, list: &[u32]) -> Refusal
     requires { ⌜ Shaped (listed shape (now list)) ⌝ }
     ensures { λ r. ⌜ r ≡ endsFault (listed shape (now (list .entry))) ⌝ }

@@ -15,6 +15,10 @@ use Rattle.ranges.proofs.side.closed.Kinds as closed-kinds
 use Rattle.ranges.proofs.side.closed.Reads as closed
 use Rattle.ranges.proofs.side.range_of.Kinds as range-of-kinds
 use Rattle.ranges.proofs.side.range_of.Reads as range-of
+use Rattle.ranges.proofs.side.is_below.Kinds as is-below-kinds
+use Rattle.ranges.proofs.side.is_below.Reads as is-below
+use Rattle.ranges.proofs.side.is_past.Kinds as is-past-kinds
+use Rattle.ranges.proofs.side.is_past.Reads as is-past
 use Rattle.ranges.proofs.side.is_void.Kinds as is-void-kinds
 use Rattle.ranges.proofs.side.is_void.Reads as is-void
 use Rattle.ranges.proofs.side.meets.Kinds as meets-kinds
@@ -42,6 +46,12 @@ closed-one κs a x y e g p q = p ∙ sym q
 
 pub range-of-one : OneAnswer 0 range-of-kinds.ps range-of-kinds.r range-of.Learnt
 range-of-one κs a x y e g p q = p ∙ sym q
+
+pub is-below-one : OneAnswer 0 is-below-kinds.ps is-below-kinds.r is-below.Learnt
+is-below-one κs a x y e g p q = p ∙ sym q
+
+pub is-past-one : OneAnswer 0 is-past-kinds.ps is-past-kinds.r is-past.Learnt
+is-past-one κs a x y e g p q = p ∙ sym q
 
 pub is-void-one : OneAnswer 0 is-void-kinds.ps is-void-kinds.r is-void.Learnt
 is-void-one κs a x y e g p q = p ∙ sym q

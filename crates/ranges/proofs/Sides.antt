@@ -1,6 +1,7 @@
 -- Laws of the first number past a range and of the range test (`specs/Sides.antt`).
 --     past-high, within-high, high-within       the code's tests on high, as facts on the first number past the range
 --     past-date, past-other, past-near          the first number past a rule's range, of dates or not, and either way
+--     past-one                                  highs of one kind of field are equal exactly when their ends are
 --     void-when                                 when a rule's range holds no number
 --     side-below, side-above, side-inside       which outcome a number has
 --     Lies, lies                                the three outcomes, with the facts that lead to each
@@ -50,6 +51,12 @@ pub past-near : (date : Bool) (high : ℕ) → (high ≤ pastOf date high) × (p
 unfolding pastOf endOf
 past-near true high = (omega arith, omega arith)
 past-near false high = (omega arith, omega arith)
+
+-- of one kind of field, ends are the same where highs are, and only there
+pub past-one : (date : Bool) (high high′ : ℕ) → (pastOf date high ≡ pastOf date high′) ↔ (high ≡ high′)
+unfolding pastOf endOf
+past-one true high high′ = (λ e. e, λ e. e)
+past-one false high high′ = (λ e. omega arith, λ e. omega arith)
 
 -- a rule's range holds no number: of dates where high is at most low, else where it is less
 abbrev pub NoNumber : Bool → ℕ → ℕ → Type 0

@@ -8,7 +8,7 @@ pub const BAD_FIELDS: u32 = 1;
 pub const BAD_LENGTH: u32 = 2;
 // More than 1,024 rules.
 pub const TOO_MANY_RULES: u32 = 3;
-// Some low > high.
+// Some low > high; of a date, some low ≥ high (02, W8).
 pub const LOW_ABOVE_HIGH: u32 = 4;
 // The table's length is not exactly 4 + 2n + 2nd.
 pub const BAD_TABLE_LENGTH: u32 = 5;

@@ -21,7 +21,8 @@ pub enum Spot {
 
 // Says where the number x lies as against the two ends of a range, tried in this order: below, above, at both ends, at the
 // low end, at the high end, strictly between. At the high end x + 1 is the first number past the range: nothing is said of
-// how the range ends. Nothing else holds a number against both ends.
+// how the range ends. All that holds a number against both ends asks this; the walk of a lookup, which asks most often, holds it
+// against each end by itself (`side::is_below`, `side::is_past`).
 pub fn spot_of(range: Range, x: u32) -> Spot
     ensures { λ r. ⌜ r ≡ spotOf (range .low) (range .past) x ⌝ }
 {

@@ -25,7 +25,7 @@ pub record Run (R : Rules) (v : View) (q p f : ℕ) : Type 0 where
   pub whole : (r : ℕ) → InPart v q r → alike R (v .order r) (v .order p) (suc f) ≡ true → (v .from p f ≤ r) × (r < v .to p f)
 
 pub record Promise (R : Rules) (v : View) : Type 0 where
-  -- the list has low ≤ high everywhere
+  -- every range of the list holds a number
   pub sound : (i f : ℕ) → i < rulesIn R → f < fieldsOf R → lowOf R i f < endsAt R i f
   -- n and d are right
   pub rules : v .n ≡ rulesIn R

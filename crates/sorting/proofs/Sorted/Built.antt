@@ -1,6 +1,6 @@
 -- The table that the build writes keeps the promise: first fit is a choice (`FirstFits.antt`), and the table of any choice keeps
 -- it (`Kept.antt`).
---     built-keeps-promise      for a list with low ≤ high everywhere
+--     built-keeps-promise      for a list whose ranges all hold a number
 --     list-keeps-promise       for a list that meets none of the refusals 1 to 4
 -- Assumes nothing.
 use mathlib.Core.Path.{_≡_}
