@@ -11,13 +11,14 @@
 -- put.
 -- Assumes nothing.
 use Prim.Native.Nat.{ℕ, _+_, _*_, _/_, _%_, _^_, _≤_, _<_}
-use mathlib.Core.Bool.{Bool, true, false}
+use mathlib.Core.Bool.{Bool}
 use mathlib.Core.List.{List, [], _∷_, flatten}
-use mathlib.Core.Path.{_≡_, refl, sym, ap, _∙_}
+use mathlib.Core.Path.{_≡_, sym, ap, _∙_}
 use native.Mathlib.Omega.{arith}
 use lib.Dec.{eqb}
 use lib.ListN.{length}
 use Rattle.ranges.specs.Numbers.{bit}
+use Rattle.ranges.proofs.Numbers.{bit-test}
 use Rattle.lists.specs.Limits.{mostFields}
 use Rattle.lists.specs.Rules.{flagOf}
 use Rattle.lists.specs.declared.shape.Shape.{Shape}
@@ -48,11 +49,7 @@ module _ (name numbers : List ℕ) (long : length name ≡ nameRoom) (many : len
 -- ---- the flags of D
 -- flag f is set, where the number of the flags has this bit
 flag-bit : (s : Shape) (f : ℕ) (t : Bool) → f < mostFields → s .dates / 2 ^ f % 2 ≡ bit t → flagOf s f ≡ t
-flag-bit s f t lt is = sym (flag-by s f lt) ∙ ap (λ b. eqb b 1) is ∙ one t
-  where
-    one : (u : Bool) → eqb (bit u) 1 ≡ u
-    one true = refl
-    one false = refl
+flag-bit s f t lt is = sym (flag-by s f lt) ∙ ap (λ b. eqb b 1) is ∙ bit-test t
 
 -- the bits of a number that is so put together
 record Bits (v a b c d e f g h : ℕ) : Type 0 where

@@ -14,7 +14,7 @@ use borrow.Author.Tests.{le-leb, lt-leb, eq-eqb, ne-eqb, leb-true, leb-false, eq
 use lib.Dec.{leb, eqb}
 use lib.ListN.{length}
 use Rattle.ranges.specs.Numbers.{pick, _and_, _or_, bit}
-use Rattle.ranges.proofs.Numbers.{and-fails}
+use Rattle.ranges.proofs.Numbers.{and-fails, bit-le}
 use Rattle.text.specs.Cells.{fed}
 use Rattle.hearing.specs.Flags.{allFlags, oneOf, nextFlag, datesFrom, wholeFlags, flagsIn, flagWith, flagsWith, hasColon, allRead, flagsEnded}
 use Rattle.hearing.specs.declared.flags.Flags.{Flags}
@@ -126,11 +126,7 @@ flags-are (b ∷ bs) = go (eqb b 58) (flags-are bs)
 
 -- ---- the number that eight flags make
 pub one-few : (b : ℕ) → oneOf b ≤ 1
-one-few b = go (eqb b 49)
-  where
-    go : (t : Bool) → bit t ≤ 1
-    go true = omega arith
-    go false = omega arith
+one-few b = bit-le (eqb b 49)
 
 -- a flag more
 dates-next : (v w b : ℕ) (bs : List ℕ) → nextFlag v (oneOf b) ≡ w → datesFrom v (b ∷ bs) ≡ datesFrom w bs

@@ -11,6 +11,10 @@ use Rattle.ranges.specs.Numbers.{pick, _and_, _or_, bit}
 use Rattle.hearing.specs.declared.flags.Flags.{Flags}
 use Rattle.hearing.specs.declared.flags.Flags.the-variants.{Without, Read, Bad}
 
+-- how many flags there are, as many as fields
+abbrev pub flagCount : ℕ
+flagCount = 8
+
 -- ---- a whole word
 -- every byte is 0 or 1
 abbrev pub allFlags : List ℕ → Bool
@@ -32,7 +36,7 @@ datesFrom v (b ∷ bs) = datesFrom (nextFlag v (oneOf b)) bs
 
 -- what the bytes after a colon come to: eight flags, or bad ones
 unfoldable pub wholeFlags : List ℕ → Flags
-wholeFlags bs = pick (eqb (length bs) 8 and allFlags bs) (Read 8 (datesFrom 0 bs)) Bad
+wholeFlags bs = pick (eqb (length bs) flagCount and allFlags bs) (Read flagCount (datesFrom 0 bs)) Bad
 
 -- the flags of a word: none where it has no colon
 abbrev pub flagsIn : List ℕ → Flags
@@ -54,7 +58,7 @@ datesOf Bad = 0
 -- with one flag more, where c have come
 unfoldable pub flagWith : ℕ → ℕ → ℕ → Flags
 flagWith c v b =
-    pick (leb 8 c) Bad
+    pick (leb flagCount c) Bad
     (pick (eqb b 48) (Read (c + 1) (nextFlag v 0))
     (pick (eqb b 49) (Read (c + 1) (nextFlag v 1))
     Bad))
@@ -73,7 +77,7 @@ hasColon Bad = true
 
 -- at the word's end fewer than eight are bad
 unfoldable pub allRead : ℕ → ℕ → Flags
-allRead c v = pick (eqb c 8) (Read c v) Bad
+allRead c v = pick (eqb c flagCount) (Read c v) Bad
 
 abbrev pub flagsEnded : Flags → Flags
 flagsEnded Without = Without

@@ -7,7 +7,7 @@
 --     no-dates, ends-plain     a shape without flags has no dates, and its ranges end past their high
 -- Assumes nothing.
 use Prim.Native.Nat.{ℕ, _/_, _%_, _^_, _≤_, _<_}
-use mathlib.Core.Bool.{Bool, true, false}
+use mathlib.Core.Bool.{true, false}
 use mathlib.Core.List.{List}
 use mathlib.Core.Path.{_≡_, refl, sym, ap, _∙_}
 use native.Mathlib.Nat.{zero-div}
@@ -15,7 +15,7 @@ use borrow.Author.Tests.{lt-ltb, le-ltb}
 use lib.Dec.{ltb, eqb}
 use Rattle.ranges.specs.Numbers.{_and_, bit, tab}
 use Rattle.ranges.specs.Sides.{endOf, closedAt, rangeOf}
-use Rattle.ranges.proofs.Numbers.{and-fails, tab-at, tab-same, tab-zero}
+use Rattle.ranges.proofs.Numbers.{and-fails, bit-test, tab-at, tab-same, tab-zero}
 use Rattle.ranges.proofs.Sides.{past-date, past-other}
 use Rattle.lists.specs.Limits.{mostFields}
 use Rattle.lists.specs.Rules.{Rules, shapeOf, flagOf, datesIn, listed, isDate, highOf, endsAt}
@@ -39,13 +39,9 @@ module _ (s : Shape) (f : ℕ) where
   flag-by lt = rw (lt-ltb f mostFields lt)
 
 -- ---- the flags of the d fields
-bit-is : (t : Bool) → eqb (bit t) 1 ≡ t
-bit-is true = refl
-bit-is false = refl
-
 pub date-flag : (s : Shape) (l : List ℕ) (f : ℕ) → f < s .d → isDate (listed s l) f ≡ flagOf s f
 unfolding isDate datesIn
-date-flag s l f lt = ap (λ b. eqb b 1) (tab-at (λ g. bit (flagOf s g)) (s .d) f lt) ∙ bit-is (flagOf s f)
+date-flag s l f lt = ap (λ b. eqb b 1) (tab-at (λ g. bit (flagOf s g)) (s .d) f lt) ∙ bit-test (flagOf s f)
 
 -- shapes of one d whose flags agree below d give a list the same meaning
 pub dates-same : (s t : Shape) → s .d ≡ t .d → ((f : ℕ) → f < s .d → flagOf s f ≡ flagOf t f) → (l : List ℕ) → listed s l ≡ listed t l

@@ -1,7 +1,7 @@
 -- Laws of one test (`specs/Walk.antt`): what it leaves, as the code works it out. The rule number i and the run from a to
 -- before b are what was read at the middle place m.
 --     run-before-group, run-past-mid, run-short, run-to-end      the tests of a run in their order
---     step-beyond, step-astray, step-by, step-told               no such rule; a run that may not be trusted; the test itself
+--     step-beyond, step-astray, step-by                          no such rule; a run that may not be trusted; the test itself
 --     Trusted, trusted, trusted-stands                           a run that may be trusted, either way round
 --     Tested, test                                               the outcomes, with the facts that lead to each
 --     Smaller, step-smaller, told-smaller                        what is left is smaller
@@ -65,10 +65,6 @@ module _ (R : Rules) (v : View) (h : List ℕ) (s e f m n i : ℕ) (is-n : n ≡
     step-by x fine is-x =
         let under : v .order m < rulesIn R = omega arith in
         rw (lt-ltb (v .order m) (rulesIn R) under, ← is-a, ← is-b, fine, ← is-i, ← is-x)
-
-    -- the same, where callees told that the run may be trusted, and the outcome
-    pub step-told : (t : Bool) (y x : Side) → t ≡ runStands s e m a b → t ≡ true → y ≡ sideAt R h i f → y ≡ x → stepAt R v h s e f m ≡ leaves x s e f a b
-    step-told t y x is-t fine is-y is-x = step-by x (sym is-t ∙ fine) (sym is-x ∙ is-y)
 
 -- ---- what a test says
 -- a run that may be trusted

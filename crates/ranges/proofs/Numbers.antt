@@ -3,7 +3,7 @@
 -- ways out.
 --     and-left, and-right, and-both    both of two tests; `and-fails`: the second does not pass
 --     or-iff, or-neither               one of them, or neither
---     bit-one                          a test's number tells its answer
+--     bit-one, bit-le, bit-test        a test's number tells its answer; it is 0 or 1, and 1 where the test passed
 --     picked, not-picked               which way a test went, from the answer that it led to
 --     all-yes, all-at, all-no, all-some     every number below n passes; each then does; one fails; and where not all pass, one fails
 --     any-yes, any-no, any-at          a number below n passes; none does; and where some number does, one
@@ -72,6 +72,15 @@ bit-one true true e = refl
 bit-one true false e = absurd (omega arith)
 bit-one false true e = absurd (omega arith)
 bit-one false false e = refl
+
+-- it is 0 or 1, and 1 exactly where the test passed
+pub bit-le : (t : Bool) → bit t ≤ 1
+bit-le true = omega arith
+bit-le false = omega arith
+
+pub bit-test : (t : Bool) → eqb (bit t) 1 ≡ t
+bit-test true = refl
+bit-test false = refl
 
 -- ---- which way a test went, from the answer that it led to
 module _ {A : Type 0} (a b v : A) where
@@ -148,10 +157,6 @@ module _ (P : ℕ → Bool) where
   pub count-more : (n : ℕ) → count (n + 1) P ≡ count n P + bit (P n)
   unfolding count
   count-more n = rw add-one
-
-  bit-le : (t : Bool) → bit t ≤ 1
-  bit-le true = omega arith
-  bit-le false = omega arith
 
   pub count-le : (n : ℕ) → count n P ≤ n
   unfolding count
