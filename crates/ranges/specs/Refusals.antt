@@ -1,5 +1,5 @@
--- 01, Refusal numbers: the rows of its table and their numbers, and what an answer that counts says in the
--- paper's words. When a row applies is said where its call is defined, in this order of rows.
+-- 01, Refusal numbers, and 02: the rows of the table and their numbers, and what an answer that counts says in the
+-- paper's words. When a row applies is said where its call is defined, in this order of rows. 13 and 14 are W1's.
 -- Assumes nothing: these are definitions.
 use Prim.Native.Nat.{ℕ}
 use mathlib.Core.Bool.{Bool}
@@ -13,6 +13,7 @@ use Rattle.ranges.specs.declared.refusal.Count.the-variants.{Is, Refused
 -- the rows of the table, each by its cause, in its order
 pub data Cause : Type 0 where
   BadFields BadLength TooManyRules LowAboveHigh BadTableLength BrokenTable NoSuchPartition BadLine BadWidth BadPrefix BadRange TooLittleRoom : Cause
+  BadRunLength BadPartitionNumber EmptyPartition ClashInPartition : Cause
 
 -- the number of each
 abbrev pub numberOf : Cause → ℕ
@@ -28,6 +29,10 @@ numberOf BadWidth = 9
 numberOf BadPrefix = 10
 numberOf BadRange = 11
 numberOf TooLittleRoom = 12
+numberOf BadRunLength = 15
+numberOf BadPartitionNumber = 16
+numberOf EmptyPartition = 17
+numberOf ClashInPartition = 18
 
 -- a refusal by its three numbers
 abbrev pub refusing : ℕ → ℕ → ℕ → Refusal

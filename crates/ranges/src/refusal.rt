@@ -1,4 +1,4 @@
-// Refusals: the numbers of 01's table, and the answer that carries one.
+// Refusals: the numbers of 01's table and of 02's requests, and the answer that carries one.
 ghost use mathlib.Core.Path.{_≡_};
 ghost use Rattle.ranges.specs.Refusals.{refusing};
 
@@ -26,6 +26,14 @@ pub const BAD_PREFIX: u32 = 10;
 pub const BAD_RANGE: u32 = 11;
 // Fewer places lent than there are results.
 pub const TOO_LITTLE_ROOM: u32 = 12;
+// 02, W4: the run of partition numbers is not n long.
+pub const BAD_RUN_LENGTH: u32 = 15;
+// Some partition number is not below n.
+pub const BAD_PARTITION_NUMBER: u32 = 16;
+// A number below the largest one used has no rule.
+pub const EMPTY_PARTITION: u32 = 17;
+// Two rules of one partition clash.
+pub const CLASH_IN_PARTITION: u32 = 18;
 
 // A refusal: its number, and its place of two numbers. The number 0 says that nothing is refused.
 pub struct Refusal {
