@@ -2,7 +2,8 @@
 
 # How many lines of each kind are drawn.
 declare -A drawn_lines=(
-    [ranges]=5000 [prefixes]=20000 [lists]=20000 [sorting]=20000 [lookup]=40000 [protocol]=10000 [random]=40000 [large]=300
+    [ranges]=5000 [prefixes]=20000 [lists]=20000 [sorting]=20000 [choices]=40000 [lookup]=40000 [protocol]=10000
+    [random]=40000 [large]=300
 )
 
 # Prints how many lines differ and the number of the first, parted by a blank. A line that is missing in one differs.
@@ -95,7 +96,8 @@ odd_inputs() {
     compare_lines 'lists, edges, in pieces' "$input" in_pieces
 }
 
-# 02, W8: lines with dates, each with the answer that it must have. The second program has no say here.
+# 02, W8 and W4: lines with dates, and with choices of partitions, each with the answer that it must have. The second
+# program has no say here.
 worked_lines() {
     local line want got
     while IFS= read -r line && IFS= read -r want; do
@@ -119,6 +121,28 @@ side 1:10000000 0 5 6 5
 ok both
 side 1:10000000 0 0 0 0
 ok above
+layout 1 6 0 9 0 9 0 9 3 2 0 1 16 7 7 7 7 7 7 7 7 7 7 7 7 7 7 7 7
+ok 3 table 3 1 3 1 2 0 0 1 2 3 0 1 2 1 2 3
+audit 1 6 0 9 0 9 0 9 16 3 1 3 1 2 0 0 1 2 3 0 1 2 1 2 3
+ok yes
+choose 1 6 0 9 0 9 0 9 3 7 7 7
+ok 3 run 0 1 2
+choose 1 0 0
+ok 0 run
+choose 1 0 1 7
+refused 15 0 0 run 7
+layout 1 0 0 4 7 7 7 7
+ok 0 table 0 1 0 0
+layout 1 0 1 0 4 7 7 7 7
+refused 15 0 0 table 7 7 7 7
+layout 1 6 7 7 7 7 7 7 3 0 3 0 16 1 1 1 1 1 1 1 1 1 1 1 1 1 1 1 1
+refused 16 0 0 table 1 1 1 1 1 1 1 1 1 1 1 1 1 1 1 1
+layout 1 6 7 7 7 7 7 7 3 0 0 2 16 1 1 1 1 1 1 1 1 1 1 1 1 1 1 1 1
+refused 17 0 0 table 1 1 1 1 1 1 1 1 1 1 1 1 1 1 1 1
+layout 1 6 7 7 7 7 7 7 3 1 1 1 16 1 1 1 1 1 1 1 1 1 1 1 1 1 1 1 1
+refused 17 0 0 table 1 1 1 1 1 1 1 1 1 1 1 1 1 1 1 1
+layout 1 6 7 7 7 7 7 7 3 0 0 1 16 1 1 1 1 1 1 1 1 1 1 1 1 1 1 1 1
+refused 18 0 0 table 1 1 1 1 1 1 1 1 1 1 1 1 1 1 1 1
 END
 }
 

@@ -59,7 +59,7 @@ status_of_calls() {
     judge $? './run calls ends with 0, refusals and bad lines among its answers'
     ends_with 0 'help was asked for' calls --help
     local word missing=''
-    for word in check scan build lookup audit report independent side p2r r2p; do grep -q "^$word " "$scratch/got" || missing="$missing $word"; done
+    for word in check scan build choose layout lookup audit report independent side p2r r2p; do grep -q "^$word " "$scratch/got" || missing="$missing $word"; done
     [ -z "$missing" ] && grep -q 'D:FFFFFFFF' "$scratch/got"
     judge $? "./run calls --help says the words, and how D has flags (missing:$missing)"
     ends_with 2 'it takes no other word' calls lines.txt

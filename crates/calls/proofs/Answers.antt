@@ -24,10 +24,10 @@ use Rattle.words.specs.declared.table_words.TableWord.{TableWord}
 use Rattle.words.specs.declared.table_words.TableWord.the-variants.{Build, Lookup, Audit, Report}
 use Rattle.phrases.proofs.Few.{few-more}
 use Rattle.words.proofs.Parts.{list-over, tables-over}
-use Rattle.words.proofs.Words.{exact-bad, r2p-over, left-long}
+use Rattle.words.proofs.Words.{choice-over, exact-bad, r2p-over, left-long}
 use Rattle.hearing.specs.declared.line.Line.{Line}
 use Rattle.calls.specs.declared.word.Word.{Word}
-use Rattle.calls.specs.declared.word.Word.the-variants.{Check, Scan, Independent, Table, Side, P2r, R2p, Unknown}
+use Rattle.calls.specs.declared.word.Word.the-variants.{Check, Scan, Independent, Choice, Table, Side, P2r, R2p, Unknown}
 use Rattle.hearing.specs.declared.flags.Flags.{Flags}
 use Rattle.hearing.specs.Flags.{datesOf, flagsEnded}
 use Rattle.hearing.specs.Lines.{Heard, heard}
@@ -110,6 +110,7 @@ word-long : (word : Word) (ns : List ℕ) → length (wordLeft word ns) ≡ leng
 word-long Check ns = refl
 word-long Scan ns = refl
 word-long Independent ns = refl
+word-long (Choice word) ns = refl
 word-long (Table word) ns = refl
 word-long Side ns = refl
 word-long P2r ns = refl
@@ -159,6 +160,7 @@ unfolding sideSaid p2rSaid
 word-over Check dates ns over = rw (list-over ns 0 (omega arith))
 word-over Scan dates ns over = rw (list-over ns 8 (omega arith))
 word-over Independent dates ns over = rw (list-over ns 0 (omega arith))
+word-over (Choice word) dates ns over = choice-over ns over word dates
 word-over (Table word) dates ns over = let few = following-few word in rw (tables-over ns (following word) (omega arith))
 word-over Side dates ns over = exact-bad 5 ns _ (λ e. omega arith)
 word-over P2r dates ns over = exact-bad 3 ns _ (λ e. omega arith)

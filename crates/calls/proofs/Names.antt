@@ -10,7 +10,7 @@ use lib.ListN.{length}
 use Rattle.ranges.specs.Numbers.{sameList}
 use Rattle.ranges.proofs.Numbers.{same-list-equal}
 use Rattle.text.specs.Texts.{bytes}
-use Rattle.calls.specs.Names.{prefixWord, tableWord, wordOf}
+use Rattle.calls.specs.Names.{prefixWord, choiceWord, tableWord, wordOf}
 use Rattle.calls.specs.declared.word.Word.the-variants.{Unknown}
 
 -- a text of at most 11 bytes is no longer name
@@ -22,7 +22,7 @@ longer-other name text short long = go (sameList name text) refl
     go false e = e
 
 pub name-over : (name : List ℕ) → 11 < length name → wordOf name ≡ Unknown
-unfolding wordOf tableWord prefixWord
+unfolding wordOf tableWord choiceWord prefixWord
 name-over name long =
     rw (
       longer-other name (bytes "check") (omega arith) long,
@@ -32,6 +32,8 @@ name-over name long =
       longer-other name (bytes "lookup") (omega arith) long,
       longer-other name (bytes "audit") (omega arith) long,
       longer-other name (bytes "report") (omega arith) long,
+      longer-other name (bytes "choose") (omega arith) long,
+      longer-other name (bytes "layout") (omega arith) long,
       longer-other name (bytes "side") (omega arith) long,
       longer-other name (bytes "p2r") (omega arith) long,
       longer-other name (bytes "r2p") (omega arith) long,

@@ -10,9 +10,9 @@ use lib.Dec.{leb}
 use Rattle.ranges.specs.Numbers.{pick, _and_}
 use Rattle.text.specs.Rows.{cellsIn, allNumbers, valuesOf, good, rowNext, keptAt}
 use Rattle.text.specs.declared.row.Row.{Row}
-use Rattle.words.specs.Words.{badSaid, checkSaid, scanSaid, independentSaid, tabledSaid, sideSaid, p2rSaid, r2pSaid, r2pLeft}
+use Rattle.words.specs.Words.{badSaid, checkSaid, scanSaid, independentSaid, choiceSaid, tabledSaid, sideSaid, p2rSaid, r2pSaid, r2pLeft}
 use Rattle.calls.specs.declared.word.Word.{Word}
-use Rattle.calls.specs.declared.word.Word.the-variants.{Check, Scan, Independent, Table, Side, P2r, R2p, Unknown}
+use Rattle.calls.specs.declared.word.Word.the-variants.{Check, Scan, Independent, Choice, Table, Side, P2r, R2p, Unknown}
 use Rattle.hearing.specs.declared.flags.Flags.{Flags}
 use Rattle.hearing.specs.Flags.{flagsIn, numberIn, datesOf, flagsEnded}
 use Rattle.hearing.specs.Lines.{Heard}
@@ -23,6 +23,7 @@ abbrev pub wordSaid : Word → ℕ → List ℕ → List ℕ
 wordSaid Check dates ns = checkSaid dates ns
 wordSaid Scan dates ns = scanSaid dates ns
 wordSaid Independent dates ns = independentSaid dates ns
+wordSaid (Choice word) dates ns = choiceSaid word dates ns
 wordSaid (Table word) dates ns = tabledSaid word dates ns
 wordSaid Side dates ns = sideSaid dates ns
 wordSaid P2r dates ns = p2rSaid ns
@@ -34,6 +35,7 @@ abbrev pub wordLeft : Word → List ℕ → List ℕ
 wordLeft Check ns = ns
 wordLeft Scan ns = ns
 wordLeft Independent ns = ns
+wordLeft (Choice word) ns = ns
 wordLeft (Table word) ns = ns
 wordLeft Side ns = ns
 wordLeft P2r ns = ns

@@ -6,9 +6,10 @@ use mathlib.Core.List.{List}
 use Rattle.ranges.specs.Numbers.{pick, sameList}
 use Rattle.text.specs.Texts.{bytes}
 use Rattle.calls.specs.declared.word.Word.{Word}
-use Rattle.calls.specs.declared.word.Word.the-variants.{Check, Scan, Independent, Table, Side, P2r, R2p, Unknown}
+use Rattle.calls.specs.declared.word.Word.the-variants.{Check, Scan, Independent, Choice, Table, Side, P2r, R2p, Unknown}
 use Rattle.hearing.specs.declared.flags.Flags.{Flags}
 use Rattle.hearing.specs.declared.flags.Flags.the-variants.{Without, Read, Bad}
+use Rattle.words.specs.declared.choice_words.ChoiceWord.the-variants.{Choose, Layout}
 use Rattle.words.specs.declared.table_words.TableWord.the-variants.{Build, Lookup, Audit, Report}
 
 -- the calls of ranges and prefixes
@@ -19,6 +20,13 @@ prefixWord name =
     (pick (sameList name (bytes "r2p")) R2p
     Unknown))
 
+-- the calls of a list and a choice of partitions, and those above
+unfoldable pub choiceWord : List ℕ → Word
+choiceWord name =
+    pick (sameList name (bytes "choose")) (Choice Choose)
+    (pick (sameList name (bytes "layout")) (Choice Layout)
+    (prefixWord name))
+
 -- the calls of a list and a table, and those above
 unfoldable pub tableWord : List ℕ → Word
 tableWord name =
@@ -26,7 +34,7 @@ tableWord name =
     (pick (sameList name (bytes "lookup")) (Table Lookup)
     (pick (sameList name (bytes "audit")) (Table Audit)
     (pick (sameList name (bytes "report")) (Table Report)
-    (prefixWord name))))
+    (choiceWord name))))
 
 -- which call a name asks for
 unfoldable pub wordOf : List ℕ → Word
@@ -41,6 +49,7 @@ abbrev pub hasD : Word → Bool
 hasD Check = true
 hasD Scan = true
 hasD Independent = true
+hasD (Choice word) = true
 hasD (Table word) = true
 hasD Side = true
 hasD P2r = false

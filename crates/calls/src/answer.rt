@@ -9,6 +9,7 @@ use hearing::line::Line;
 use phrases::say::put_bad;
 use text::put::put_byte;
 use text::row::row_next;
+use words::choice_words::call_choice;
 use words::list_words::call_check;
 use words::list_words::call_independent;
 use words::list_words::call_scan;
@@ -33,6 +34,7 @@ fn put_word(word: Word, dates: u32, given: &mut [u32], out: &mut [u8], at: usize
         Word::Check => call_check(dates, given, out, at),
         Word::Scan => call_scan(dates, given, out, at),
         Word::Independent => call_independent(dates, given, out, at),
+        Word::Choice(call) => call_choice(call, dates, given, out, at),
         Word::Table(call) => call_table(call, dates, given, out, at),
         Word::Side => call_side(dates, given, out, at),
         Word::P2r => call_p2r(given, out, at),

@@ -50,6 +50,8 @@ Reads lines from standard input and answers each with one line:\n\
 \n\
 check D LIST                 ok N\n\
 scan D LIST HEADER           ok RULE | ok none\n\
+choose D LIST RUN            ok B | refused ..       and then, either way, run and the run's numbers\n\
+layout D LIST RUN TABLE      ok B | refused ..       and then, either way, table and the table's numbers\n\
 build D LIST TABLE           ok B | refused ..       and then, either way, table and the table's numbers\n\
 lookup D LIST TABLE HEADER   ok RULE TESTS edge | ok RULE TESTS plain | ok none TESTS plain\n\
 audit D LIST TABLE           ok yes | ok no\n\
@@ -62,8 +64,8 @@ any refusal                  refused NUMBER FIRST SECOND\n\
 anything else                bad\n\
 \n\
 Words are parted by single blanks, and LF ends a line; what follows the last LF, if anything, is a line too. LIST, TABLE\n\
-and RUN are a length, at most 16500, 18500 and 200, and then that many numbers; HEADER is eight numbers. Numbers are\n\
-plain decimals without leading zeros, 0 to 4294967295, those of a table to 65535.\n\
+and RUN are a length, at most 16500, 18500 and 1100 (r2p: 200), and then that many numbers; HEADER is eight numbers. Numbers\n\
+are plain decimals without leading zeros, 0 to 4294967295, those of a table and of a choose's or layout's run to 65535.\n\
 \n\
 D is the number of fields, or that and flags, D:FFFFFFFF: eight characters 0 or 1, the first for field 0, the next for field\n\
 1, and so on. 1 says that the field is a date: its ranges hold LOW to before HIGH, where others hold HIGH too. Flags from\n\

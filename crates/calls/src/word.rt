@@ -1,14 +1,16 @@
 // The names of the calls, and which of them have a D, which may have flags.
 use hearing::flags::Flags;
+use words::choice_words::ChoiceWord;
 use words::table_words::TableWord;
 ghost use mathlib.Core.Path.{_≡_};
-ghost use Rattle.calls.specs.Names.{prefixWord, tableWord, wordOf, hasD, flagsFit};
+ghost use Rattle.calls.specs.Names.{prefixWord, choiceWord, tableWord, wordOf, hasD, flagsFit};
 
 // What a line's first word asks for.
 pub enum Word {
     Check,
     Scan,
     Independent,
+    Choice(ChoiceWord),
     Table(TableWord),
     Side,
     P2r,
@@ -48,6 +50,19 @@ fn table_word(name: &[u8]) -> Word
     if check::same(name, b"report") {
         return Word::Table(TableWord::Report);
     }
+    choice_word(name)
+}
+
+// Says which of the calls of a list and a choice of partitions a name asks for, or of those that are left.
+fn choice_word(name: &[u8]) -> Word
+    ensures { λ r. ⌜ r ≡ choiceWord (now (name .entry)) ⌝ }
+{
+    if check::same(name, b"choose") {
+        return Word::Choice(ChoiceWord::Choose);
+    }
+    if check::same(name, b"layout") {
+        return Word::Choice(ChoiceWord::Layout);
+    }
     prefix_word(name)
 }
 
@@ -75,6 +90,7 @@ fn has_d(word: Word) -> bool
         Word::Check => true,
         Word::Scan => true,
         Word::Independent => true,
+        Word::Choice(call) => true,
         Word::Table(call) => true,
         Word::Side => true,
         Word::P2r => false,

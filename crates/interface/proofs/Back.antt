@@ -23,10 +23,10 @@ use Rattle.lists.specs.declared.scan.Match.{Match}
 use Rattle.lists.specs.declared.scan.Match.the-variants as match
 use Rattle.lists.specs.declared.independence.Pair.{Pair}
 use Rattle.lists.specs.declared.independence.Pair.the-variants as pair
-use Rattle.sorting.specs.Build.{saysVerdict}
+use Rattle.auditing.specs.Audit.{saysVerdict}
 use Rattle.tables.specs.Report.{saysPart}
-use Rattle.sorting.specs.declared.audit.Verdict.{Verdict}
-use Rattle.sorting.specs.declared.audit.Verdict.the-variants as verdict
+use Rattle.auditing.specs.declared.audit.Verdict.{Verdict}
+use Rattle.auditing.specs.declared.audit.Verdict.the-variants as verdict
 use Rattle.tables.specs.declared.report.Part.{Part}
 use Rattle.tables.specs.declared.report.Part.the-variants as part
 use Rattle.lookup.specs.declared.lookup.Looked.{Looked}

@@ -15,6 +15,10 @@ use Rattle.interface.proofs.list.cuy_plain_scan.Kinds as plain-scan-kin
 use Rattle.interface.proofs.list.cuy_plain_scan.Reads as plain-scan
 use Rattle.interface.proofs.list.cuy_independence.Kinds as independence-kinds
 use Rattle.interface.proofs.list.cuy_independence.Reads as independence
+use Rattle.interface.proofs.table.cuy_choose.Kinds as choose-kinds
+use Rattle.interface.proofs.table.cuy_choose.Reads as choose
+use Rattle.interface.proofs.table.cuy_lay_out.Kinds as lay-out-kinds
+use Rattle.interface.proofs.table.cuy_lay_out.Reads as lay-out
 use Rattle.interface.proofs.table.cuy_build.Kinds as build-kinds
 use Rattle.interface.proofs.table.cuy_build.Reads as build
 use Rattle.interface.proofs.table.cuy_lookup.Kinds as lookup-kinds
@@ -54,6 +58,24 @@ independence-one κs a x y e g p q = returned-one p q
 
 pub independence-answer-one : OneRun 2 independence-kinds.ps independence-kinds.r independence.Learnt (λ κs e. now (e .1 .1 .1 .0))
 independence-answer-one κs a x y e g p q = written-one p q
+
+pub choose-one : OneAnswer 3 choose-kinds.ps choose-kinds.r choose.Learnt
+choose-one κs a x y e g p q = returned-one (p .0) (q .0)
+
+pub choose-answer-one : OneRun 3 choose-kinds.ps choose-kinds.r choose.Learnt (λ κs e. now (e .1 .1 .1 .1 .0))
+choose-answer-one κs a x y e g p q = written-one (p .0) (q .0)
+
+pub choose-run-one : OneRun 3 choose-kinds.ps choose-kinds.r choose.Learnt (λ κs e. now (e .1 .1 .1 .0))
+choose-run-one κs a x y e g p q = p .1 ∙ sym (q .1)
+
+pub lay-out-one : OneAnswer 4 lay-out-kinds.ps lay-out-kinds.r lay-out.Learnt
+lay-out-one κs a x y e g p q = returned-one (p .0) (q .0)
+
+pub lay-out-answer-one : OneRun 4 lay-out-kinds.ps lay-out-kinds.r lay-out.Learnt (λ κs e. now (e .1 .1 .1 .1 .1 .0))
+lay-out-answer-one κs a x y e g p q = written-one (p .0) (q .0)
+
+pub lay-out-table-one : OneRun 4 lay-out-kinds.ps lay-out-kinds.r lay-out.Learnt (λ κs e. now (e .1 .1 .1 .1 .0))
+lay-out-table-one κs a x y e g p q = p .1 ∙ sym (q .1)
 
 pub build-one : OneAnswer 3 build-kinds.ps build-kinds.r build.Learnt
 build-one κs a x y e g p q = returned-one (p .0) (q .0)

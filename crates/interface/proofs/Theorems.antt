@@ -3,6 +3,8 @@
 --     check-told           cuy_check
 --     scan-told            cuy_plain_scan
 --     independence-told    cuy_independence
+--     choose-told          cuy_choose
+--     lay-out-told         cuy_lay_out
 --     build-told           cuy_build
 --     lookup-told          cuy_lookup
 --     audit-told           cuy_audit
@@ -17,7 +19,7 @@ use mathlib.Core.Path.{_≡_, refl}
 use lib.Dec.{ltb}
 use borrow.Author.Tests.{eqb-false}
 use lib.ListN.{length}
-use Rattle.ranges.specs.Numbers.{sameList, pick}
+use Rattle.ranges.specs.Numbers.{pick}
 use Rattle.ranges.specs.Refusals.{stands, saysCount, countUnless}
 use Rattle.ranges.specs.Prefixes.{prefixFault, lastOf, boundsOf, saysBounds}
 use Rattle.ranges.specs.Blocks.{prefixesOf, expandFault, expandOf}
@@ -33,12 +35,14 @@ use Rattle.lists.specs.Scan.{matchOf, scanOf, saysMatch}
 use Rattle.lists.specs.Independence.{paired, partnerOf, pairOf, independenceOf, saysPair}
 use Rattle.lists.specs.declared.scan.Match.the-variants as match
 use Rattle.lists.specs.declared.independence.Pair.the-variants as pair
-use Rattle.sorting.specs.Build.{buildFault, builtParts, buildOf, auditOf, saysVerdict}
+use Rattle.sorting.specs.Build.{buildFault, builtParts, buildOf}
+use Rattle.sorting.specs.FirstFit.{parts}
+use Rattle.sorting.specs.Brought.{chooseFault, chooseOf, layFault, layOutOf}
+use Rattle.auditing.specs.Audit.{isLaid, auditOf, saysVerdict}
 use Rattle.tables.specs.Report.{sizeOf, leastRule, reportFault, reportOf, saysPart}
 use Rattle.tables.specs.Layout.{View}
 use Rattle.tables.specs.Opening.{viewOf, openFault}
-use Rattle.sorting.specs.Table.{builtTable}
-use Rattle.sorting.specs.declared.audit.Verdict.the-variants as verdict
+use Rattle.auditing.specs.declared.audit.Verdict.the-variants as verdict
 use Rattle.tables.specs.declared.report.Part.the-variants as part
 use Rattle.lookup.specs.Lookup.{visitOf, afterVisit, better, lookupFrom, searchOf, lookupOf}
 use Rattle.lookup.specs.declared.walk.Walked.{Walked}
@@ -93,11 +97,17 @@ independence-told R =
 pub build-told : (R : Rules) (T : List ℕ) → countBack (numbersOf 1 (saysCount (buildOf R T))) ≡ buildOf R T
 build-told R T = count-back (buildOf R T) (counted (buildFault R T) (builtParts R))
 
+pub choose-told : (R : Rules) (run : List ℕ) → countBack (numbersOf 1 (saysCount (chooseOf R run))) ≡ chooseOf R run
+choose-told R run = count-back (chooseOf R run) (counted (chooseFault R run) (builtParts R))
+
+pub lay-out-told : (R : Rules) (run T : List ℕ) → countBack (numbersOf 1 (saysCount (layOutOf R run T))) ≡ layOutOf R run T
+lay-out-told R run T = count-back (layOutOf R run T) (counted (layFault R run T) (parts run (rulesIn R)))
+
 pub audit-told : (R : Rules) (T : List ℕ) → verdictBack (numbersOf 1 (saysVerdict (auditOf R T))) ≡ auditOf R T
 audit-told R T =
     verdict-back (auditOf R T)
-    (unless VerdictRefuses (buildFault R T) (pick (sameList T (builtTable R)) verdict.Yes verdict.No) (verdict.Refused (buildFault R T))
-    (either VerdictRefuses (sameList T (builtTable R)) verdict.Yes verdict.No tt tt)
+    (unless VerdictRefuses (buildFault R T) (pick (isLaid R T) verdict.Yes verdict.No) (verdict.Refused (buildFault R T))
+    (either VerdictRefuses (isLaid R T) verdict.Yes verdict.No tt tt)
     (λ r. r))
 
 pub report-told : (R : Rules) (T : List ℕ) (q : ℕ) → partBack (numbersOf 2 (saysPart (reportOf R T q))) ≡ reportOf R T q

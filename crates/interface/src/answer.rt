@@ -1,16 +1,16 @@
 // How an answer is written into the run of numbers that a caller lends: number, at, then, and then what is answered.
+use auditing::audit::Verdict;
 use lists::independence::Pair;
 use lists::scan::Match;
 use lookup::lookup::Looked;
 use ranges::prefix::Bounds;
 use ranges::refusal::Count;
-use sorting::audit::Verdict;
 use tables::report::Part;
 ghost use Rattle.ranges.specs.Refusals.{saysCount};
 ghost use Rattle.ranges.specs.Prefixes.{saysBounds};
 ghost use Rattle.lists.specs.Scan.{saysMatch};
 ghost use Rattle.lists.specs.Independence.{saysPair};
-ghost use Rattle.sorting.specs.Build.{saysVerdict};
+ghost use Rattle.auditing.specs.Audit.{saysVerdict};
 ghost use Rattle.tables.specs.Report.{saysPart};
 ghost use Rattle.interface.specs.Answers.{Told, saysInPlace};
 

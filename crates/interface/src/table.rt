@@ -1,21 +1,58 @@
-// Tables: build, lookup, audit, report.
+// Tables: choose, lay out, build, lookup, audit, report.
 use crate::answer::put_count;
 use crate::answer::put_looked;
 use crate::answer::put_part;
 use crate::answer::put_verdict;
+use auditing::audit::audit;
 use lists::shape::Shape;
 use lookup::lookup::lookup;
-use sorting::audit::audit;
 use sorting::build::build;
+use sorting::choose::choose;
+use sorting::lay_out::lay_out;
 use tables::report::report;
 ghost use mathlib.Core.Path.{_≡_};
 ghost use Rattle.ranges.specs.Refusals.{saysCount};
-ghost use Rattle.sorting.specs.Build.{buildOf, tableAfter, auditOf, saysVerdict};
+ghost use Rattle.sorting.specs.Build.{buildOf, tableAfter};
+ghost use Rattle.sorting.specs.Brought.{chooseOf, runAfter, layOutOf, laidAfter};
+ghost use Rattle.auditing.specs.Audit.{auditOf, saysVerdict};
 ghost use Rattle.tables.specs.Report.{reportOf, saysPart};
 ghost use Rattle.lookup.specs.Lookup.{lookupOf};
 ghost use Rattle.interface.specs.Answers.{Told, rulesOf, saysInPlace};
 
-// Builds the table of a list: writes every number of it and answers b, the number of partitions. A refusal leaves the
+// Chooses partitions for a list: writes each rule's first-fit partition number into the run and answers b, the number of
+// partitions. A refusal leaves the run as lent.
+#[no_mangle]
+pub extern "C" fn cuy_choose(
+    d: usize,
+    dates: u32,
+    list: &[u32],
+    run: &mut [u16],
+    answer: &mut [u64; 4],
+) -> u32
+    ensures { λ r. ⌜ Told 1 (saysCount (chooseOf (rulesOf d dates (now (list .entry))) (now (run .entry)))) r (now (answer .exit)) ⌝ }
+    ensures { λ _. ⌜ now (run .exit) ≡ runAfter (rulesOf d dates (now (list .entry))) (now (run .entry)) ⌝ }
+{
+    put_count(choose(Shape { d, dates }, list, run), answer)
+}
+
+// Lays a table out by a choice of partitions: writes every number of it and answers b, the number of partitions. A refusal
+// leaves the table as lent.
+#[no_mangle]
+pub extern "C" fn cuy_lay_out(
+    d: usize,
+    dates: u32,
+    list: &[u32],
+    run: &[u16],
+    table: &mut [u16],
+    answer: &mut [u64; 4],
+) -> u32
+    ensures { λ r. ⌜ Told 1 (saysCount (layOutOf (rulesOf d dates (now (list .entry))) (now (run .entry)) (now (table .entry)))) r (now (answer .exit)) ⌝ }
+    ensures { λ _. ⌜ now (table .exit) ≡ laidAfter (rulesOf d dates (now (list .entry))) (now (run .entry)) (now (table .entry)) ⌝ }
+{
+    put_count(lay_out(Shape { d, dates }, list, run, table), answer)
+}
+
+// Builds the table of a list, which is the two in turn: writes every number of it and answers b, the number of partitions. A refusal leaves the
 // table as lent.
 #[no_mangle]
 pub extern "C" fn cuy_build(
@@ -47,7 +84,7 @@ pub extern "C" fn cuy_lookup(
     put_looked(lookup(Shape { d, dates }, list, table, *header), answer)
 }
 
-// Audits a table: answers 1 where every number of it is what the build would write for this list, else 0.
+// Audits a table: answers 1 where some run of partition numbers makes cuy_lay_out write this table for this list, else 0.
 #[no_mangle]
 pub extern "C" fn cuy_audit(
     d: usize,

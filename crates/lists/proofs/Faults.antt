@@ -17,7 +17,8 @@ use borrow.Author.Tests.{lt-ltb, le-ltb, eq-eqb, ne-eqb, ltb-false, eqb-true}
 use Rattle.ranges.specs.Numbers.{pick, _or_}
 use Rattle.ranges.specs.Refusals.{none, refused, stands, BadFields, BadLength, TooManyRules}
 use Rattle.ranges.specs.declared.refusal.Refusal.{Refusal}
-use Rattle.ranges.proofs.Numbers.{never, true-not-false}
+use Rattle.ranges.proofs.Numbers.{never}
+use Rattle.ranges.proofs.InARow.{else-none}
 use Rattle.lists.specs.Rules.{Rules, fieldsOf, rulesIn}
 use Rattle.lists.specs.Faults.{shapeFault, endsFault, listFault}
 use Rattle.lists.proofs.Rules.{Shaped, whole-length, length-whole}
@@ -96,20 +97,12 @@ shape-few R = go (ltb (fieldsOf R) 1) (ltb 8 (fieldsOf R)) (eqb (length (R .numb
     go false false true false = omega arith
 
 -- ---- 1 to 4
--- of two refusals in a row of which none refuses: neither does
-both-stand : (x y : Refusal) → (pick (stands x) y x) .number ≡ 0 → (x .number ≡ 0) × (y .number ≡ 0)
-both-stand x y = go (stands x) refl
-  where
-    go : (t : Bool) → stands x ≡ t → (pick t y x) .number ≡ 0 → (x .number ≡ 0) × (y .number ≡ 0)
-    go true e z = (eqb-true (x .number) 0 e, z)
-    go false e z = absurd (true-not-false (eq-eqb (x .number) 0 z) e)
-
 module _ (R : Rules) (z : listFault R .number ≡ 0) where
   pub shape-of : shapeFault R .number ≡ 0
-  shape-of = both-stand (shapeFault R) (endsFault R) z .0
+  shape-of = else-none (shapeFault R) (endsFault R) .0 z .0
 
   pub ends-of : endsFault R .number ≡ 0
-  ends-of = both-stand (shapeFault R) (endsFault R) z .1
+  ends-of = else-none (shapeFault R) (endsFault R) .0 z .1
 
 -- ---- as the code works it out: x is the refusal of a callee
 module _ {A : Type 0} (x y : Refusal) (is-y : x ≡ y) where

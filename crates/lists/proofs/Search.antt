@@ -3,14 +3,16 @@
 -- loop goes on, where not it has its answer; past n every number answered t. r is the answer at j as a callee gave it.
 --     answered-none, answered-more      where the loop begins, and after a turn
 --     answered-all, answered-not        of t = true: all pass; one does not
+--     turn-not, turn-more               of t = true, where the code asks for the answer's no
 --     answered-least, answered-end      of t = false: the least that passes; there is none
 --     answered-one, answered-none-of    of t = false: one passes; none does
 -- Assumes nothing.
 use Prim.Native.Nat.{ℕ, _+_, _≤_, _<_}
-use mathlib.Core.Bool.{Bool, true, false}
+use mathlib.Core.Bool.{Bool, true, false, not}
 use mathlib.Core.Path.{_≡_, sym, _∙_}
 use native.Mathlib.Omega.{arith}
 use borrow.Author.Count.{below-more}
+use borrow.Author.Tests.{not-true, not-false}
 use Rattle.ranges.specs.Numbers.{all, any, least}
 use Rattle.ranges.proofs.Numbers.{all-yes, all-no, any-yes, any-no, least-is, least-none}
 
@@ -43,3 +45,11 @@ module _ {P : ℕ → Bool} {n j : ℕ} where
 
   pub answered-none-of : Answered P false n j → n ≤ j → false ≡ any n P
   answered-none-of told past = sym (any-no P n (λ k lt. told .below k (omega arith)))
+
+-- the code asks for the answer's no
+module _ {P : ℕ → Bool} {n j : ℕ} (told : Answered P true n j) (lt : j < n) {r : Bool} (is-r : r ≡ P j) where
+  pub turn-not : not r ≡ true → false ≡ all n P
+  turn-not e = answered-not told lt is-r (not-true r e)
+
+  pub turn-more : not r ≡ false → Answered P true n (j + 1)
+  turn-more e = answered-more told lt is-r (not-false r e)

@@ -23,6 +23,7 @@
 --        built-rule-iff                   of that table: rule i exactly when i is the first rule that fits ..
 --        built-none-iff                   .. and none exactly when no rule fits
 --        built-lookup, choice-then-lookup of the table of first fit, and of any choice of partitions
+--        audited-then-lookup              of every table that is audited yes, whoever wrote it: no refusal, the first match, at most d + k tests a partition
 --     3. The count is the written walk's, and small.
 --        count-is-the-sum                 it is the sum of the partitions' tests
 --        partition-tests                  at most d + k in a partition of m rules, 2^k being the largest power of two within m
@@ -61,6 +62,9 @@ use Rattle.sorting.proofs.Sorted.Reading.{table-sized}
 use Rattle.sorting.proofs.Sorted.Kept.{choice-keeps-promise}
 use Rattle.sorting.proofs.Sorted.Built.{built-keeps-promise, list-keeps-promise}
 use Rattle.sorting.proofs.Theorems.{build-is-b-iff, built-table}
+use Rattle.auditing.specs.Audit.{auditOf}
+use Rattle.auditing.specs.declared.audit.Verdict.the-variants.{Yes}
+use Rattle.auditing.proofs.Theorems.{audit-fine, audited-promises}
 use Rattle.lookup.specs.Walk.{walkFrom}
 use Rattle.lookup.specs.Lookup.{visitOf, answerOf, lookupOf, matchIn, testsIn, edgeIn}
 use Rattle.lookup.specs.Bounds.{PowerWithin, testsOf, sumFrom, refuses, ladder}
@@ -75,7 +79,7 @@ use Rattle.lookup.proofs.Refusing.{RefusedBy, refused-by, FirstBroken, 
 use Rattle.lookup.proofs.Lookups.{lookup-refused}
 use Rattle.lookup.proofs.Firsts.{lookup-first}
 use Rattle.lookup.proofs.Matched.{NoneFits, matched-rule-iff, matched-none-iff}
-use Rattle.lookup.proofs.Totals.{answer-tests, power-within, visit-tests, sum-le, lookup-sum, none-costs-none}
+use Rattle.lookup.proofs.Totals.{answer-tests, answer-stands, power-within, visit-tests, sum-le, lookup-sum, none-costs-none}
 use Rattle.lookup.proofs.Reached.{ladder-sound, ladder-rules, ladder-stands, ladder-parts, ladder-reaches}
 
 -- ---- 1. every answer and every refusal is the written one
@@ -206,6 +210,20 @@ module _ (R : Rules) (T h : List ℕ) where
 
   pub empty-list-costs-none : rulesIn R ≡ 0 → openFault R T .number ≡ 0 → lookupOf R T h ≡ Nothing 0
   empty-list-costs-none = none-costs-none R T h
+
+-- of a table that is audited yes, whoever wrote it
+pub record Served (R : Rules) (T h : List ℕ) : Type 0 where
+  pub never-refused : refuses (lookupOf R T h) ≡ false
+  pub first-match : lookupOf R T h ≡ answerOf R h (firstMatch R h) (testsIn (lookupOf R T h))
+  pub the-sum : testsIn (lookupOf R T h) ≡ sumFrom (viewOf R T .b) 0 (cost R T h)
+  pub few-tests : (q k : ℕ) → PowerWithin (size R T h q) k → cost R T h q ≤ fieldsOf R + k
+
+pub audited-then-lookup : (R : Rules) (T : List ℕ) → auditOf R T ≡ Yes → (h : List ℕ) → Served R T h
+audited-then-lookup R T yes-said h =
+    let able = audit-fine R T yes-said in
+    let first = lookup-is-first-match R T (list-shaped R (able .no-fault)) (able .sized) (audited-promises R T yes-said) h in
+    let fine : refuses (lookupOf R T h) ≡ false = ap refuses first ∙ answer-stands R h (firstMatch R h) (testsIn (lookupOf R T h)) in
+    record { never-refused = fine; first-match = first; the-sum = count-is-the-sum R T h fine; few-tests = partition-tests R T h }
 
 pub size-has-k : (m : ℕ) → 1 ≤ m → (k : ℕ) × PowerWithin m k
 size-has-k = power-within

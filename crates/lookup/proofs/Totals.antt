@@ -2,6 +2,7 @@
 -- 2^k being the largest power of two within m.
 --     power-within               every number from 1 on has one
 --     visit-tests                a partition's tests
+--     answer-tests, answer-stands      an answer's tests; it is no refusal
 --     sum-le                     a sum of smaller summands
 --     lookup-sum                 the count is the sum
 --     none-costs-none            an empty list costs none
@@ -69,6 +70,14 @@ pub answer-tests : (R : Rules) (h : List ℕ) (best t : ℕ) → testsIn (answer
 answer-tests R h best t = go (ltb best (rulesIn R))
   where
     go : (p : Bool) → testsIn (pick p (Rule best t (edgeOf R h best)) (Nothing t)) ≡ t
+    go true = refl
+    go false = refl
+
+-- and it is none of a refusal
+pub answer-stands : (R : Rules) (h : List ℕ) (best t : ℕ) → refuses (answerOf R h best t) ≡ false
+answer-stands R h best t = go (ltb best (rulesIn R))
+  where
+    go : (p : Bool) → refuses (pick p (Rule best t (edgeOf R h best)) (Nothing t)) ≡ false
     go true = refl
     go false = refl
 

@@ -16,8 +16,8 @@ use Rattle.lists.specs.declared.independence.Pair.{Pair}
 use Rattle.lists.specs.declared.independence.Pair.the-variants.{Independent, Both, Refused as NoPair}
 use Rattle.lookup.specs.declared.lookup.Looked.{Looked}
 use Rattle.lookup.specs.declared.lookup.Looked.the-variants.{Rule as Found, Nothing as NotFound, Refused as NoLook}
-use Rattle.sorting.specs.declared.audit.Verdict.{Verdict}
-use Rattle.sorting.specs.declared.audit.Verdict.the-variants.{Yes, No, Refused as NoVerdict}
+use Rattle.auditing.specs.declared.audit.Verdict.{Verdict}
+use Rattle.auditing.specs.declared.audit.Verdict.the-variants.{Yes, No, Refused as NoVerdict}
 use Rattle.tables.specs.declared.report.Part.{Part}
 use Rattle.tables.specs.declared.report.Part.the-variants.{Is as PartIs, Refused as NoPart}
 use Rattle.text.specs.Texts.{bytes}

@@ -1,5 +1,6 @@
 // Answers as text, put at a place of a lent run: each function answers the place after it. An answer is a word and
 // numbers, each after a blank. A number takes at most 21 bytes; an answer without a table or a run has at most 70.
+use auditing::audit::Verdict;
 use lists::independence::Pair;
 use lists::scan::Match;
 use lookup::lookup::Looked;
@@ -7,7 +8,6 @@ use ranges::prefix::Bounds;
 use ranges::refusal::Count;
 use ranges::refusal::Refusal;
 use ranges::spot::Spot;
-use sorting::audit::Verdict;
 use tables::report::Part;
 use text::put::put_byte;
 use text::put::put_number;

@@ -2,6 +2,7 @@
 -- Numbers: of `all`, `count`, `least`, `greatest` and `tab`.
 -- Counting: more of `count`, up to the pigeonhole.
 -- Widths: what shifts and masks do, once for every width.
+-- InARow: refusals in a row, of which the first is given.
 -- Answers: what an answer says tells it apart from every other.
 -- OneAnswer: a contract that allows one result alone.
 -- Spots: of the single range test.
@@ -20,6 +21,7 @@
 pub mod Numbers
 pub mod Counting
 pub mod Widths
+pub mod InARow
 pub mod Answers
 pub mod OneAnswer
 pub mod Spots

@@ -1,11 +1,11 @@
--- 01, Other answers and Refusal numbers: what a build answers and leaves in the table, and what an audit answers.
--- Both refuse by 1, 2, 3, 4, 5 in this order. A refusal leaves the table as lent.
+-- 01, Other answers and Refusal numbers: what a build answers and leaves in the table.
+-- It refuses by 1, 2, 3, 4, 5 in this order, as an audit does. A refusal leaves the table as lent.
 -- Assumes nothing: these are definitions.
 use Prim.Native.Nat.{ℕ}
-use mathlib.Core.List.{List, [], _∷_}
+use mathlib.Core.List.{List}
 use mathlib.Core.Path.{_≡_}
-use Rattle.ranges.specs.Numbers.{pick, sameList}
-use Rattle.ranges.specs.Refusals.{none, orElse, stands, countUnless, Said, saidOf}
+use Rattle.ranges.specs.Numbers.{pick}
+use Rattle.ranges.specs.Refusals.{orElse, stands, countUnless}
 use Rattle.ranges.specs.declared.refusal.Refusal.{Refusal}
 use Rattle.ranges.specs.declared.refusal.Count.{Count}
 use Rattle.lists.specs.Rules.{Rules, fieldsOf, rulesIn}
@@ -14,8 +14,6 @@ use Rattle.sorting.specs.FirstFit.{firstFit, parts}
 use Rattle.tables.specs.Layout.{TableFor}
 use Rattle.tables.specs.Opening.{tableFault}
 use Rattle.sorting.specs.Table.{builtTable}
-use Rattle.sorting.specs.declared.audit.Verdict.{Verdict}
-use Rattle.sorting.specs.declared.audit.Verdict.the-variants.{Yes, No, Refused}
 
 -- 1, 2, 3, 4, 5 in this order
 unfoldable pub buildFault : Rules → List ℕ → Refusal
@@ -44,14 +42,3 @@ tableAfter R T = pick (stands (buildFault R T)) (builtTable R) T
 pub record Built (R : Rules) (T after : List ℕ) (answer : Count) : Type 0 where
   pub answers : answer ≡ buildOf R T
   pub leaves : after ≡ tableAfter R T
-
--- ---- audit
--- yes where every number of the table is what the build would write, unless something is refused
-abbrev pub auditOf : Rules → List ℕ → Verdict
-auditOf R T = pick (stands (buildFault R T)) (pick (sameList T (builtTable R)) Yes No) (Refused (buildFault R T))
-
--- what the answer says in the paper's words: 1 for yes, 0 for no
-abbrev pub saysVerdict : Verdict → Said
-saysVerdict Yes = saidOf none (1 ∷ [])
-saysVerdict No = saidOf none (0 ∷ [])
-saysVerdict (Refused x) = saidOf x []

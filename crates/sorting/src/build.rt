@@ -1,6 +1,6 @@
 // The build of a table, with its refusals.
-use crate::choose::choose;
-use crate::lay_out::lay_out;
+use crate::choose::first_fit;
+use crate::lay_out::write_laid;
 use lists::check::list_fault;
 use lists::shape::MOST_RULES;
 use lists::shape::Shape;
@@ -32,14 +32,14 @@ pub fn build_fault(shape: Shape, list: &[u32], table: &[u16]) -> Refusal
 }
 
 // Chooses partitions by first fit and lays the table out with them: writes every number of the table for a list and a table that are not refused, and returns how many partitions there are.
-pub(crate) fn write_built(shape: Shape, list: &[u32], table: &mut [u16]) -> usize
+fn write_built(shape: Shape, list: &[u32], table: &mut [u16]) -> usize
     requires { ⌜ Buildable (listed shape (now list)) (now table) ⌝ }
     ensures { λ r. ⌜ (r ≡ builtParts (listed shape (now (list .entry)))) × (now (table .exit) ≡ builtTable (listed shape (now (list .entry)))) ⌝ }
 {
     let n = rules_in(shape, list);
     let mut run = [0u16; MOST_RULES];
-    choose(shape, list, &mut run[..n]);
-    lay_out(shape, list, &run[..n], table) as usize
+    first_fit(shape, list, &mut run[..n]);
+    write_laid(shape, list, &run[..n], table) as usize
 }
 
 // Builds the table of a list: writes every number of it and gives b, the number of partitions; or gives the first of the

@@ -1,8 +1,12 @@
 // The choice of partitions: first fit, by marks.
 use crate::count_parts::parts_in;
+use crate::run_fault::length_fault;
+use lists::check::list_fault;
 use lists::shape::MOST_RULES;
 use lists::shape::Shape;
 use ordering::compare::rules_clash;
+use ranges::refusal::Count;
+use ranges::refusal::Refusal;
 ghost use mathlib.Core.Path.{_≡_};
 ghost use Prim.Native.Nat.{_<_};
 ghost use Rattle.lists.specs.Limits.{mostRules};
@@ -10,6 +14,7 @@ ghost use Rattle.lists.specs.Rules.{listed};
 ghost use Rattle.sorting.specs.FirstFit.{Chosen};
 ghost use Rattle.sorting.specs.Asked.{TwoRules, Numbered};
 ghost use Rattle.sorting.specs.Marks.{markOf, stamped, unstamped, Marking};
+ghost use Rattle.sorting.specs.Brought.{chooseFault, ChosenInto};
 
 // Gives the stamp of rule j's partition, which was old, once rule i is held against rule j. Where the partition is
 // taken already, the two rules are not compared.
@@ -56,7 +61,7 @@ fn first_free(i: u16, stamps: &[u16; MOST_RULES]) -> u16
 }
 
 // Writes the first-fit partition number of each rule into run and returns how many partitions that opens.
-pub(crate) fn choose(shape: Shape, list: &[u32], run: &mut [u16]) -> u16
+pub(crate) fn first_fit(shape: Shape, list: &[u32], run: &mut [u16]) -> u16
     requires { ⌜ Numbered (listed shape (now list)) (now run) ⌝ }
     ensures { λ r. ⌜ Chosen (listed shape (now (list .entry))) (now (run .exit)) r ⌝ }
 {
@@ -69,4 +74,27 @@ pub(crate) fn choose(shape: Shape, list: &[u32], run: &mut [u16]) -> u16
         i += 1;
     }
     parts_in(run)
+}
+
+// Gives the first of the refusals 1, 2, 3, 4 and 15 that applies to a list and a run, or the one that refuses nothing.
+fn choose_fault(shape: Shape, list: &[u32], run: &[u16]) -> Refusal
+    ensures { λ r. ⌜ r ≡ chooseFault (listed shape (now (list .entry))) (now (run .entry)) ⌝ }
+{
+    let fault = list_fault(shape, list);
+    if fault.number != 0 {
+        return fault;
+    }
+    length_fault(shape, list, run)
+}
+
+// Chooses partitions for a list: writes each rule's first-fit partition number into the run and gives b, how many
+// partitions that opens; or gives the first of the refusals 1, 2, 3, 4 and 15 that applies, and leaves the run as lent.
+pub fn choose(shape: Shape, list: &[u32], run: &mut [u16]) -> Count
+    ensures { λ r. ⌜ ChosenInto (listed shape (now (list .entry))) (now (run .entry)) (now (run .exit)) r ⌝ }
+{
+    let fault = choose_fault(shape, list, run);
+    if fault.number != 0 {
+        return Count::Refused(fault);
+    }
+    Count::Is(first_fit(shape, list, run) as usize)
 }

@@ -1,7 +1,7 @@
 // Layer 3: rules sorted into partitions, and the working table.
 //
 // Renders 01's sections 'Order and partitions' (first fit), 'The working table' and, of 'Refusal numbers' and 'Other
-// answers', what is said of a build and an audit. The crates of the lookup and the programs may cite it; it
+// answers', what is said of a build; and 02, W4: the choice and the laying out by themselves. The crates of the lookup and the programs may cite it; it
 // cites `ranges`, `lists`, for the order of rules `ordering` and for where a table's numbers stand `tables`. What a lookup
 // may rely on is `specs/Promise.antt` alone.
 //
@@ -15,8 +15,8 @@
 // Runs by neighbours (`lay_out.rt`). What the rules at places p - 1 and p have in common, counted in leading fields and
 // none in different partitions, says for every field at once whether p's run begins with p. So one pass from the first
 // place gives all run-froms, each row of fields by the row before, and one pass from the last place all run-tos.
-pub mod audit;
 pub mod build;
-mod choose;
+pub mod choose;
 mod count_parts;
-mod lay_out;
+pub mod lay_out;
+mod run_fault;

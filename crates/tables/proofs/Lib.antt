@@ -1,5 +1,6 @@
 -- The laws that proofs of this crate and above cite:
 -- Offsets: every part of a table lies within it.
+-- SameTable: two tables that are read alike are one.
 -- Readers: numbers of a table as the code reads them.
 -- Opened: which refusal an opening meets, and what a table is that opens.
 -- Minimum: the smallest of several numbers.
@@ -8,6 +9,7 @@
 -- Answers: what a report's answer says tells it apart from every other.
 -- Determined: every contract allows one result alone.
 pub mod Offsets
+pub mod SameTable
 pub mod Readers
 pub mod Opened
 pub mod Minimum

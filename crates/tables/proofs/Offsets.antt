@@ -3,17 +3,18 @@
 --     order-next, start-next, start-suc, from-next, to-next          one place, one partition, one row and field further
 --     head-ends, order-ends, starts-end, froms-end, tos-end      each part begins where the one before it ends, and the last ends the table
 --     row-first, row-in, row-place, row-field             the first number of a row; one number of all rows, with its place and field
+--     row-back, row-split                                 back from a number of all rows to its place and field
 --     opening-inside, order-inside, start-inside, from-inside, to-inside      every number lies within the table
 --     starts-fit, start-within, froms-fit, tos-fit        so do the parts
 --     from-row-at, to-row-at                              where a row begins
 --     row-few, start-few, from-few                        an offset of numbers of 16 bits is far below a word
 --     most-table, table-few                               the length of the longest table
 -- Assumes nothing.
-use Prim.Native.Nat.{ℕ, suc, _+_, _*_, _/_, _%_, _^_, _≤_, _<_}
+use Prim.Native.Nat.{ℕ, zero, suc, _+_, _*_, _/_, _%_, _^_, _≤_, _<_}
 use mathlib.Core.List.{List}
 use mathlib.Core.Path.{_≡_, refl}
 use native.Mathlib.Omega.{arith}
-use native.Mathlib.Nat.{mul-le-mul}
+use native.Mathlib.Nat.{mul-le-mul, mul-zero, div-add-mod', div-lt-iff-lt-mul, mod-lt}
 use Rattle.lists.specs.Limits.{mostFields, mostRules}
 use Rattle.lists.proofs.Rules.{row-inside, square-few}
 use lib.Arith.{digits-div, digits-mod}
@@ -31,6 +32,11 @@ module _ (d p : ℕ) where
   unfolding rowOf
   row-in n f lt in-row = row-inside d p n f lt in-row
 
+-- rows that hold a number have a field
+row-some : (d n c : ℕ) → c < n * d → 0 < d
+row-some zero n c lt = absurd (omega (arith, mul-zero n))
+row-some (suc d) n c lt = omega arith
+
 -- a number among rows of d, by its place and field
 module _ {d : ℕ} (p : ℕ) {f : ℕ} (in-row : f < d) where
   pub row-place : rowOf d p f / d ≡ p
@@ -40,6 +46,15 @@ module _ {d : ℕ} (p : ℕ) {f : ℕ} (in-row : f < d) where
   pub row-field : rowOf d p f % d ≡ f
   unfolding rowOf
   row-field = digits-mod p in-row
+
+-- back from a number to its place and field
+module _ (d c : ℕ) where
+  pub row-back : rowOf d (c / d) (c % d) ≡ c
+  unfolding rowOf
+  row-back = div-add-mod' c d
+
+  pub row-split : (n : ℕ) → c < n * d → (c / d < n) × (c % d < d)
+  row-split n lt = let some : 0 < d = row-some d n c lt in (div-lt-iff-lt-mul some .1 lt, mod-lt c some)
 
 -- ---- one further
 pub order-next : (p : ℕ) → orderAt p ≡ orderAt 0 + p

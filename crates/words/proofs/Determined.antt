@@ -12,6 +12,8 @@ use Rattle.words.proofs.part.exact.Kinds as exact-kinds
 use Rattle.words.proofs.part.exact.Reads as exact
 use Rattle.words.proofs.part.list_end.Kinds as list-end-kinds
 use Rattle.words.proofs.part.list_end.Reads as list-end
+use Rattle.words.proofs.part.narrow_end.Kinds as narrow-end-kinds
+use Rattle.words.proofs.part.narrow_end.Reads as narrow-end
 use Rattle.words.proofs.part.table_ends.Kinds as table-ends-kinds
 use Rattle.words.proofs.part.table_ends.Reads as table-ends
 use Rattle.words.proofs.list_words.call_check.Kinds as call-check-kinds
@@ -20,6 +22,8 @@ use Rattle.words.proofs.list_words.call_scan.Kinds as call-scan-kinds
 use Rattle.words.proofs.list_words.call_scan.Reads as call-scan
 use Rattle.words.proofs.list_words.call_independent.Kinds as call-independent-kinds
 use Rattle.words.proofs.list_words.call_independent.Reads as call-independent
+use Rattle.words.proofs.choice_words.call_choice.Kinds as call-choice-kinds
+use Rattle.words.proofs.choice_words.call_choice.Reads as call-choice
 use Rattle.words.proofs.table_words.call_table.Kinds as call-table-kinds
 use Rattle.words.proofs.table_words.call_table.Reads as call-table
 use Rattle.words.proofs.prefix_words.call_side.Kinds as call-side-kinds
@@ -38,6 +42,9 @@ exact-one κs a x y e g p q = p ∙ sym q
 
 pub list-end-one : OneAnswer 1 list-end-kinds.ps list-end-kinds.r list-end.Learnt
 list-end-one κs a x y e g p q = p ∙ sym q
+
+pub narrow-end-one : OneAnswer 1 narrow-end-kinds.ps narrow-end-kinds.r narrow-end.Learnt
+narrow-end-one κs a x y e g p q = p ∙ sym q
 
 pub table-ends-one : OneAnswer 1 table-ends-kinds.ps table-ends-kinds.r table-ends.Learnt
 table-ends-one κs a x y e g p q = p ∙ sym q
@@ -60,6 +67,13 @@ call-independent-one κs a x y e g p q = place-one (p .puts) (q .puts)
 
 pub call-independent-bytes-one : OneRun 2 call-independent-kinds.ps call-independent-kinds.r call-independent.Learnt (λ κs e. now (e .1 .1 .0))
 call-independent-bytes-one κs a x y e g p q = bytes-one (p .puts) (q .puts)
+
+-- ---- choice_words
+pub call-choice-one : OneAnswer 2 call-choice-kinds.ps call-choice-kinds.r call-choice.Learnt
+call-choice-one κs a x y e g p q = place-one (p .puts) (q .puts)
+
+pub call-choice-bytes-one : OneRun 2 call-choice-kinds.ps call-choice-kinds.r call-choice.Learnt (λ κs e. now (e .1 .1 .1 .0))
+call-choice-bytes-one κs a x y e g p q = bytes-one (p .puts) (q .puts)
 
 -- ---- table_words
 pub call-table-one : OneAnswer 2 call-table-kinds.ps call-table-kinds.r call-table.Learnt

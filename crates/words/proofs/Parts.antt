@@ -1,7 +1,9 @@
 -- Laws of the parts of a line's numbers (`specs/Parts.antt`).
 --     run-none, run-long, run-cut, run-is       where a run ends, way by way
+--     narrow-none, narrow-wide, narrow-is, narrow-told, narrow-asked      where a run of 16-bit numbers ends, and what that tells
 --     exact-not, exact-is                       what follows it
 --     tables-none, tables-cut, tables-wide, tables-are     where a list and a table end, way by way
+--     last-is, last-told                        such a run that is the last part
 --     run-told, exact-told, list-told, table-told, tables-told       what an end tells
 --     list-over, tables-over                    too many numbers
 --     tables-asked                              which is what a call asks
@@ -19,7 +21,7 @@ use lib.Dec.{ltb, leb, eqb}
 use Rattle.ranges.specs.Numbers.{pick, tab}
 use Rattle.ranges.proofs.Numbers.{never, tab-length, tab-at}
 use Rattle.words.specs.Limits.{listMost, tableMost}
-use Rattle.words.specs.Parts.{fromTo, runEnd, exactly, listEnd, onEnd, allNarrow, tableEnds, Tabled}
+use Rattle.words.specs.Parts.{fromTo, runEnd, RunTo, exactly, listEnd, onEnd, allNarrow, narrowEnd, NarrowTo, Narrow, tableEnds, Tabled}
 use Rattle.words.specs.declared.part.End.{End}
 use Rattle.words.specs.declared.part.End.the-variants.{At, Missing}
 use Rattle.words.specs.declared.part.Ends.{Ends}
@@ -44,12 +46,6 @@ module _ (most : ℕ) (ns : List ℕ) (at : ℕ) where
   unfolding runEnd
   run-is lt few fits = rw (lt-leb (length ns) at lt, le-ltb most (getD ns at 0) few, le-ltb (length ns) (at + 1 + getD ns at 0) fits)
 
--- what a run's end tells: the run stands in the numbers, and is not too long
-pub record RunTo (most : ℕ) (ns : List ℕ) (at e : ℕ) : Type 0 where
-  pub begun : at + 1 ≤ e
-  pub within : e ≤ length ns
-  pub few : e ≤ at + 1 + most
-
 pub run-told : (most : ℕ) (ns : List ℕ) (at : ℕ) {e : ℕ} → runEnd most ns at ≡ At e → RunTo most ns at e
 unfolding runEnd
 run-told most ns at {e} = go (leb (length ns) at) (ltb most (getD ns at 0)) (ltb (length ns) (at + 1 + getD ns at 0)) refl refl refl
@@ -64,6 +60,40 @@ run-told most ns at {e} = go (leb (length ns) at) (ltb most (getD ns at 0)) (ltb
         let few = ltb-false most (getD ns at 0) q in
         let fits = ltb-false (length ns) (at + 1 + getD ns at 0) r in
         record { begun = omega arith; within = omega arith; few = omega arith }
+
+-- ---- a run of 16-bit numbers
+module _ (most : ℕ) (ns : List ℕ) (at : ℕ) {end : End} (ran : end ≡ runEnd most ns at) where
+  -- no run
+  pub narrow-none : end ≡ Missing → Missing ≡ narrowEnd most ns at
+  unfolding narrowEnd
+  narrow-none none = rw (sym ran ∙ none)
+
+  module _ {e : ℕ} (is : end ≡ At e) where
+    pub narrow-wide : allNarrow (fromTo (at + 1) e ns) ≡ false → Missing ≡ narrowEnd most ns at
+    unfolding narrowEnd
+    narrow-wide wide = rw (sym ran ∙ is, wide)
+
+    pub narrow-is : allNarrow (fromTo (at + 1) e ns) ≡ true → At e ≡ narrowEnd most ns at
+    unfolding narrowEnd
+    narrow-is fine = rw (sym ran ∙ is, fine)
+
+pub narrow-told : (most : ℕ) (ns : List ℕ) (at : ℕ) {e : ℕ} → narrowEnd most ns at ≡ At e → NarrowTo most ns at e
+unfolding narrowEnd
+narrow-told most ns at {e} = go (runEnd most ns at) refl
+  where
+    test : {x : ℕ} → RunTo most ns at x → (t : Bool) → allNarrow (fromTo (at + 1) x ns) ≡ t → pick t (At x) Missing ≡ At e → NarrowTo most ns at e
+    test {x} run true fine is =
+        let same : x ≡ e = cc in
+        rw (← same) (record { run = run; narrow = fine })
+    test run false fine is = never (cc)
+
+    go : (s : End) → runEnd most ns at ≡ s → onEnd s (λ x. pick (allNarrow (fromTo (at + 1) x ns)) (At x) Missing) Missing ≡ At e → NarrowTo most ns at e
+    go (At x) ran is = test (run-told most ns at ran) (allNarrow (fromTo (at + 1) x ns)) refl is
+    go Missing ran is = never (cc)
+
+-- which is what a call asks of such a run
+pub narrow-asked : {most : ℕ} {ns : List ℕ} {at e : ℕ} → NarrowTo most ns at e → Narrow most (fromTo (at + 1) e ns)
+narrow-asked h = record { few = simp (length-take, length-drop) (omega (arith, h .run .few)); narrow = h .narrow }
 
 -- ---- what follows it
 module _ (ns : List ℕ) (more : ℕ) (end : End) where
@@ -85,6 +115,14 @@ module _ (ns : List ℕ) (more : ℕ) (end : End) where
       go : (x : End) → end ≡ x → exactly ns more x ≡ At e → (end ≡ At e) × (length ns ≡ e + more)
       go (At x) is told = test is (eqb (length ns) (x + more)) refl told
       go Missing is told = never (cc)
+
+-- a run of 16-bit numbers that is the last part: x and y are what callees gave
+module _ (most : ℕ) (ns : List ℕ) (at : ℕ) {x y : End} (is-x : x ≡ narrowEnd most ns at) (is-y : y ≡ exactly ns 0 x) where
+  pub last-is : {z : End} → y ≡ z → exactly ns 0 (narrowEnd most ns at) ≡ z
+  last-is e = ap (exactly ns 0) (sym is-x) ∙ sym is-y ∙ e
+
+  pub last-told : {e : ℕ} → y ≡ At e → NarrowTo most ns at e
+  last-told e = narrow-told most ns at (exact-told ns 0 (narrowEnd most ns at) (last-is e) .0)
 
 -- ---- D LIST
 -- what the end of a list tells: it stands in the numbers from place 2 on, is not too long, and exactly so many numbers more follow

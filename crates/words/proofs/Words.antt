@@ -16,12 +16,17 @@ use borrow.Rule.Slice.PartMut.{putMid}
 use Rattle.ranges.specs.declared.refusal.Count.{Count}
 use Rattle.ranges.specs.Blocks.{prefixesOf, rangeFault, roomFault, runAfter}
 use Rattle.text.specs.Puts.{Put}
-use Rattle.words.specs.Limits.{runMost, answerMost}
+use Rattle.words.specs.Limits.{listMost, choiceMost, tableMost, runMost, lineRoom, answerMost}
 use Rattle.phrases.specs.Few.{PutFew, PutAll}
-use Rattle.words.specs.Parts.{fromTo}
+use Rattle.words.specs.Parts.{fromTo, runEnd, RunTo, exactly, onEnd, narrowEnd}
+use Rattle.words.specs.declared.part.End.{End}
+use Rattle.words.specs.declared.part.End.the-variants.{At, Missing}
+use Rattle.words.specs.declared.choice_words.ChoiceWord.{ChoiceWord}
+use Rattle.words.specs.declared.choice_words.ChoiceWord.the-variants.{Choose, Layout}
 use Rattle.phrases.specs.Said.{allSpaced, countSaid}
-use Rattle.words.specs.Words.{badSaid, expandedSaid, r2pStands, r2pSaid, r2pLeft}
+use Rattle.words.specs.Words.{badSaid, chooseFrom, chooseSaid, layoutAfter, layoutFrom, layoutSaid, choiceSaid, expandedSaid, r2pStands, r2pSaid, r2pLeft}
 use Rattle.words.proofs.Lent.{rest-lent, rest-long, rest-back}
+use Rattle.words.proofs.Parts.{run-told, narrow-told, exact-told}
 use Rattle.words.proofs.Longest.{table-most}
 use Rattle.phrases.proofs.Few.{few-text, few-then, few-more}
 
@@ -33,6 +38,47 @@ pub counted-put : (word : List ℕ) {count is : Count} {ns left : List ℕ} {n :
     → PutFew (70 + length word + 21 * n) out at (countSaid is ++ word ++ allSpaced left) after end
 counted-put word answers leaves long count text numbers =
     rw (← answers, ← leaves, ← long) (few-then (few-then count (few-text (length word) (omega arith) text)) numbers)
+
+-- ---- choose and layout
+-- more numbers than they take
+module _ (ns : List ℕ) (over : lineRoom < length ns) where
+  -- a run that ends at place e cannot be the last part
+  last-over : (most at : ℕ) → at + 1 + most < length ns → exactly ns 0 (narrowEnd most ns at) ≡ Missing
+  last-over most at short = go (exactly ns 0 (narrowEnd most ns at)) refl
+    where
+      go : (x : End) → exactly ns 0 (narrowEnd most ns at) ≡ x → x ≡ Missing
+      go (At e) is =
+          let told = exact-told ns 0 (narrowEnd most ns at) is in
+          let run = narrow-told most ns at (told .0) .run in
+          absurd (omega (arith, told .1))
+      go Missing is = refl
+
+  choose-over : (dates : ℕ) → chooseSaid dates ns ≡ badSaid
+  unfolding chooseSaid
+  choose-over dates = go (runEnd listMost ns 1) refl
+    where
+      go : (x : End) → runEnd listMost ns 1 ≡ x → onEnd x (chooseFrom dates ns) badSaid ≡ badSaid
+      go (At e) is = let list = run-told listMost ns 1 is in rw (last-over choiceMost e (omega arith))
+      go Missing is = refl
+
+  layout-over : (dates : ℕ) → layoutSaid dates ns ≡ badSaid
+  unfolding layoutSaid
+  layout-over dates = go (runEnd listMost ns 1) refl
+    where
+      next : (e t : ℕ) → RunTo listMost ns 1 e → RunTo choiceMost ns e t → layoutAfter dates ns e t ≡ badSaid
+      next e t list run = rw (last-over tableMost t (omega arith))
+
+      then : (e : ℕ) → RunTo listMost ns 1 e → (x : End) → narrowEnd choiceMost ns e ≡ x → onEnd x (layoutAfter dates ns e) badSaid ≡ badSaid
+      then e list (At t) is = next e t list (narrow-told choiceMost ns e is .run)
+      then e list Missing is = refl
+
+      go : (x : End) → runEnd listMost ns 1 ≡ x → onEnd x (layoutFrom dates ns) badSaid ≡ badSaid
+      go (At e) is = then e (run-told listMost ns 1 is) (narrowEnd choiceMost ns e) refl
+      go Missing is = refl
+
+  pub choice-over : (word : ChoiceWord) (dates : ℕ) → choiceSaid word dates ns ≡ badSaid
+  choice-over Choose dates = choose-over dates
+  choice-over Layout dates = layout-over dates
 
 -- ---- side and p2r, whose numbers are exactly so many
 module _ (k : ℕ) (ns said : List ℕ) where

@@ -2,7 +2,7 @@
 -- What depends on a list or a table follows from the longest that the library takes.
 -- Assumes nothing: these are definitions.
 use Prim.Native.Nat.{ℕ, _+_, _*_, _/_}
-use Rattle.lists.specs.Limits.{mostNumbers}
+use Rattle.lists.specs.Limits.{mostRules, mostNumbers}
 use Rattle.tables.specs.Layout.{mostTable}
 
 -- the next multiple of k past n
@@ -17,13 +17,17 @@ listMost = pastIn 500 mostNumbers
 unfoldable pub tableMost : ℕ
 tableMost = pastIn 500 mostTable
 
--- the most numbers of RUN
+-- the most numbers of r2p's RUN
 abbrev pub runMost : ℕ
 runMost = 200
 
--- the length of the run for a line's numbers: a list's, a table's, and 100 for D, the two lengths and what follows
+-- the most numbers of RUN of choose and layout, past the longest choice
+abbrev pub choiceMost : ℕ
+choiceMost = pastIn 100 mostRules
+
+-- the length of the run for a line's numbers: a list's, a choice's, a table's, and 100 for D, the three lengths and what follows
 abbrev pub lineRoom : ℕ
-lineRoom = listMost + tableMost + 100
+lineRoom = listMost + choiceMost + tableMost + 100
 
 -- the length of the run for a line's first word, past that of the longest name
 abbrev pub nameRoom : ℕ

@@ -30,6 +30,12 @@ runEnd most ns at =
     (pick (ltb (length ns) (at + 1 + getD ns at 0)) Missing
     (At (at + 1 + getD ns at 0))))
 
+-- what a run's end tells: the run stands in the numbers, and is not too long
+pub record RunTo (most : ℕ) (ns : List ℕ) (at e : ℕ) : Type 0 where
+  pub begun : at + 1 ≤ e
+  pub within : e ≤ length ns
+  pub few : e ≤ at + 1 + most
+
 -- a part's end, where exactly so many numbers more follow it
 abbrev pub exactly : List ℕ → ℕ → End → End
 exactly ns more (At e) = pick (eqb (length ns) (e + more)) (At e) Missing
@@ -48,6 +54,15 @@ onEnd Missing next other = other
 unfoldable pub allNarrow : List ℕ → Bool
 allNarrow ns = all (length ns) (λ k. leb (getD ns k 0) 65535)
 
+-- where the run of 16-bit numbers from place `at` on ends: a length, at most `most`, and then that many such numbers
+unfoldable pub narrowEnd : ℕ → List ℕ → ℕ → End
+narrowEnd most ns at = onEnd (runEnd most ns at) (λ e. pick (allNarrow (fromTo (at + 1) e ns)) (At e) Missing) Missing
+
+-- what its end tells
+pub record NarrowTo (most : ℕ) (ns : List ℕ) (at e : ℕ) : Type 0 where
+  pub run : RunTo most ns at e
+  pub narrow : allNarrow (fromTo (at + 1) e ns) ≡ true
+
 -- where the list and the table of D LIST TABLE end, with exactly so many numbers more after them; a table's numbers
 -- are of 16 bits
 unfoldable pub tableEnds : List ℕ → ℕ → Ends
@@ -61,6 +76,11 @@ pub record Tabled (numbers rest : List ℕ) (more : ℕ) : Type 0 where
   pub few : length numbers ≤ tableMost
   pub narrow : allNarrow numbers ≡ true
   pub follow : length rest ≡ more
+
+-- what a run of 16-bit numbers is that may have so many
+pub record Narrow (most : ℕ) (numbers : List ℕ) : Type 0 where
+  pub few : length numbers ≤ most
+  pub narrow : allNarrow numbers ≡ true
 
 abbrev pub onEnds : Ends → (ℕ → ℕ → List ℕ) → List ℕ → List ℕ
 onEnds (Both e t) next other = next e t

@@ -15,14 +15,18 @@ use Rattle.lists.specs.Headers.{headerLength}
 use Rattle.lists.specs.Check.{checkOf}
 use Rattle.lists.specs.Scan.{scanOf}
 use Rattle.lists.specs.Independence.{independenceOf}
-use Rattle.sorting.specs.Build.{buildOf, tableAfter, auditOf}
+use Rattle.sorting.specs.Build.{buildOf, tableAfter}
+use Rattle.sorting.specs.Brought.{chooseOf, runAfter as chosenAfter, layOutOf, laidAfter}
+use Rattle.auditing.specs.Audit.{auditOf}
 use Rattle.tables.specs.Report.{reportOf}
 use Rattle.lookup.specs.Lookup.{lookupOf}
 use Rattle.lists.specs.Rules.{Rules, flagOf}
 use Rattle.text.specs.Texts.{bytes}
-use Rattle.words.specs.Limits.{runMost}
+use Rattle.words.specs.Limits.{listMost, choiceMost, tableMost, runMost}
 use Rattle.phrases.specs.Said.{allSpaced, countSaid, boundsSaid, matchSaid, pairSaid, foundSaid, spotSaid, verdictSaid, partSaid}
-use Rattle.words.specs.Parts.{fromTo, listEnd, onEnd, tableEnds, onEnds, shapeIn, rulesTo, headerAt}
+use Rattle.words.specs.Parts.{fromTo, runEnd, exactly, listEnd, onEnd, narrowEnd, tableEnds, onEnds, shapeIn, rulesTo, headerAt}
+use Rattle.words.specs.declared.choice_words.ChoiceWord.{ChoiceWord}
+use Rattle.words.specs.declared.choice_words.ChoiceWord.the-variants.{Choose, Layout}
 use Rattle.words.specs.declared.table_words.TableWord.{TableWord}
 use Rattle.words.specs.declared.table_words.TableWord.the-variants.{Build, Lookup, Audit, Report}
 
@@ -41,6 +45,38 @@ scanSaid dates ns = onEnd (listEnd ns headerLength) (λ e. matchSaid (scanOf (ru
 -- independent D LIST
 abbrev pub independentSaid : ℕ → List ℕ → List ℕ
 independentSaid dates ns = onEnd (listEnd ns 0) (λ e. pairSaid (independenceOf (rulesTo dates e ns))) badSaid
+
+-- ---- choose D LIST RUN
+-- ok B or the refusal, and then the run's numbers afterwards
+abbrev pub chosenSaid : Rules → List ℕ → List ℕ
+chosenSaid R run = countSaid (chooseOf R run) ++ bytes " run" ++ allSpaced (chosenAfter R run)
+
+-- the list ends at place e
+abbrev pub chooseFrom : ℕ → List ℕ → ℕ → List ℕ
+chooseFrom dates ns e = onEnd (exactly ns 0 (narrowEnd choiceMost ns e)) (λ t. chosenSaid (rulesTo dates e ns) (fromTo (e + 1) t ns)) badSaid
+
+unfoldable pub chooseSaid : ℕ → List ℕ → List ℕ
+chooseSaid dates ns = onEnd (runEnd listMost ns 1) (chooseFrom dates ns) badSaid
+
+-- ---- layout D LIST RUN TABLE
+-- ok B or the refusal, and then the table's numbers afterwards
+abbrev pub laidSaid : Rules → List ℕ → List ℕ → List ℕ
+laidSaid R run T = countSaid (layOutOf R run T) ++ bytes " table" ++ allSpaced (laidAfter R run T)
+
+-- the list ends at place e, and the run at place t
+abbrev pub layoutAfter : ℕ → List ℕ → ℕ → ℕ → List ℕ
+layoutAfter dates ns e t =
+    onEnd (exactly ns 0 (narrowEnd tableMost ns t)) (λ u. laidSaid (rulesTo dates e ns) (fromTo (e + 1) t ns) (fromTo (t + 1) u ns)) badSaid
+
+abbrev pub layoutFrom : ℕ → List ℕ → ℕ → List ℕ
+layoutFrom dates ns e = onEnd (narrowEnd choiceMost ns e) (layoutAfter dates ns e) badSaid
+
+unfoldable pub layoutSaid : ℕ → List ℕ → List ℕ
+layoutSaid dates ns = onEnd (runEnd listMost ns 1) (layoutFrom dates ns) badSaid
+
+abbrev pub choiceSaid : ChoiceWord → ℕ → List ℕ → List ℕ
+choiceSaid Choose dates ns = chooseSaid dates ns
+choiceSaid Layout dates ns = layoutSaid dates ns
 
 -- ---- build D LIST TABLE, lookup D LIST TABLE HEADER, audit D LIST TABLE, report D LIST TABLE P
 -- how many numbers follow the table

@@ -7,7 +7,7 @@ ghost use mathlib.Core.Bool.{true};
 ghost use mathlib.Core.Path.{_≡_};
 ghost use Prim.Native.Nat.{_<_};
 ghost use lib.ListN.{length};
-ghost use Rattle.words.specs.Parts.{runEnd, exactly, listEnd, allNarrow, tableEnds, shapeIn};
+ghost use Rattle.words.specs.Parts.{runEnd, exactly, listEnd, allNarrow, narrowEnd, tableEnds, shapeIn};
 
 // Where a part ends: the place after its last number. Missing, where the numbers are not as the part wants them.
 pub enum End {
@@ -76,6 +76,21 @@ fn all_narrow(numbers: &[u32]) -> bool
     true
 }
 
+// Says where the run of 16-bit numbers from a place on ends: a length, at most `most`, and then that many such numbers.
+pub fn narrow_end(most: usize, given: &[u32], at: usize) -> End
+    ensures { λ r. ⌜ r ≡ narrowEnd most (now (given .entry)) at ⌝ }
+{
+    let end = run_end(most, given, at);
+    let End::At(e) = end else {
+        return End::Missing;
+    };
+    let from = at + 1;
+    if all_narrow(&given[from..e]) {
+        return End::At(e);
+    }
+    End::Missing
+}
+
 // Says where the list and the table of D LIST TABLE end, with exactly so many numbers more after them.
 pub fn table_ends(given: &[u32], more: usize) -> Ends
     ensures { λ r. ⌜ r ≡ tableEnds (now (given .entry)) more ⌝ }
@@ -95,7 +110,7 @@ pub fn table_ends(given: &[u32], more: usize) -> Ends
     Ends::Missing
 }
 
-// Writes numbers of 16 bits to a table of as many.
+// Writes numbers of 16 bits to a run of as many.
 pub(crate) fn narrow(numbers: &[u32], table: &mut [u16])
     requires { ⌜ length (now table) ≡ length (now numbers) ⌝ }
     requires { ⌜ allNarrow (now numbers) ≡ true ⌝ }

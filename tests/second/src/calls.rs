@@ -7,10 +7,11 @@
 //! empty line are faults. Any byte but blank and LF belongs to its word: CR, tab and NUL are faults of their word.
 //! The first word names the call and is in small letters.
 //!
-//! Numbers. Plain decimal digits without leading zeros ("0" itself stands), 0 to 4294967295; a number of a TABLE is
-//! 0 to 65535. LIST, TABLE and RUN are a length and then exactly that many numbers; the length is at most 16500 for
-//! a LIST, 18500 for a TABLE, 200 for a RUN. HEADER is eight numbers. Each of P, FIELD, NUMBER, VALUE, LENGTH, WIDTH,
-//! LOW and HIGH is any number. After the last part nothing may follow.
+//! Numbers. Plain decimal digits without leading zeros ("0" itself stands), 0 to 4294967295; a number of a TABLE, and
+//! of a RUN of choose and layout, is 0 to 65535. LIST, TABLE and RUN are a length and then exactly that many numbers;
+//! the length is at most 16500 for a LIST, 18500 for a TABLE, 1100 for a RUN of choose and layout, 200 for that of r2p.
+//! HEADER is eight numbers. Each of P, FIELD, NUMBER, VALUE, LENGTH, WIDTH, LOW and HIGH is any number. After the last
+//! part nothing may follow.
 //!
 //! Dates. D is any number, and no field is a date; or it is D:FFFFFFFF, any number, a colon, and eight flags, each 0 or
 //! 1, the first for field 0: which fields are dates. The flags from d on alter nothing, but `side` takes the flag of
@@ -19,6 +20,8 @@
 //!     check D LIST                 ok N
 //!     scan D LIST HEADER           ok RULE | ok none
 //!     build D LIST TABLE           ok B | refused ..       then, either way, " table" and " NUMBER" for each number
+//!     choose D LIST RUN            ok B | refused ..       then, either way, " run" and " NUMBER" for each number
+//!     layout D LIST RUN TABLE      ok B | refused ..       then, either way, " table" and " NUMBER" for each number
 //!     lookup D LIST TABLE HEADER   ok RULE TESTS edge | ok RULE TESTS plain | ok none TESTS plain
 //!     audit D LIST TABLE           ok yes | ok no
 //!     report D LIST TABLE P        ok SIZE SMALLEST
@@ -32,16 +35,18 @@
 //! The line is read whole before the call is made, so a fault anywhere in it answers `bad` and nothing else. A table
 //! or run of no numbers answers with the bare word " table" or " run". An answer neither starts nor ends in a blank.
 
+use crate::choices::choose;
 use crate::decimal::number_of;
 use crate::lists::{check, independence, scan, Header, Shape};
 use crate::lookup::lookup;
 use crate::prefixes::{prefix_to_range, range_to_prefixes};
 use crate::ranges::{spot_of, Range, Spot};
 use crate::refusal::Refusal;
-use crate::table::{audit, build, report};
+use crate::table::{audit, build, lay_out, report};
 
 pub const MOST_LIST: usize = 16500;
 pub const MOST_TABLE: usize = 18500;
+pub const MOST_CHOICE: usize = 1100;
 pub const MOST_RUN: usize = 200;
 
 /// The words of a line that are still to be read.
@@ -81,8 +86,18 @@ impl<'a> Words<'a> {
         self.run(MOST_LIST)
     }
 
+    /// A length of at most `most`, and that many numbers of 16 bits.
+    fn short_numbers(&mut self, most: usize) -> Option<Vec<u16>> {
+        self.run(most)?.into_iter().map(|x| if x > 65535 { None } else { Some(x as u16) }).collect()
+    }
+
     fn table(&mut self) -> Option<Vec<u16>> {
-        self.run(MOST_TABLE)?.into_iter().map(|x| if x > 65535 { None } else { Some(x as u16) }).collect()
+        self.short_numbers(MOST_TABLE)
+    }
+
+    /// The run of a choice of partitions.
+    fn choice(&mut self) -> Option<Vec<u16>> {
+        self.short_numbers(MOST_CHOICE)
     }
 
     fn header(&mut self) -> Option<Header> {
@@ -161,6 +176,20 @@ fn call_build(words: &mut Words) -> Option<String> {
     Some(answer + &lent("table", &table))
 }
 
+fn call_choose(words: &mut Words) -> Option<String> {
+    let (shape, list, mut run) = (words.shape()?, words.list()?, words.choice()?);
+    words.end()?;
+    let answer = said(choose(shape, &list, &mut run), |b| b.to_string());
+    Some(answer + &lent("run", &run))
+}
+
+fn call_layout(words: &mut Words) -> Option<String> {
+    let (shape, list, run, mut table) = (words.shape()?, words.list()?, words.choice()?, words.table()?);
+    words.end()?;
+    let answer = said(lay_out(shape, &list, &run, &mut table), |b| b.to_string());
+    Some(answer + &lent("table", &table))
+}
+
 fn call_lookup(words: &mut Words) -> Option<String> {
     let (shape, list, table, header) = (words.shape()?, words.list()?, words.table()?, words.header()?);
     words.end()?;
@@ -173,7 +202,7 @@ fn call_lookup(words: &mut Words) -> Option<String> {
 fn call_audit(words: &mut Words) -> Option<String> {
     let (shape, list, table) = (words.shape()?, words.list()?, words.table()?);
     words.end()?;
-    Some(said(audit(shape, &list, &table), |same| String::from(if same { "yes" } else { "no" })))
+    Some(said(audit(shape, &list, &table), |laid| String::from(if laid { "yes" } else { "no" })))
 }
 
 fn call_report(words: &mut Words) -> Option<String> {
@@ -227,6 +256,8 @@ fn call(line: &[u8]) -> Option<String> {
         b"check" => call_check(&mut words),
         b"scan" => call_scan(&mut words),
         b"build" => call_build(&mut words),
+        b"choose" => call_choose(&mut words),
+        b"layout" => call_layout(&mut words),
         b"lookup" => call_lookup(&mut words),
         b"audit" => call_audit(&mut words),
         b"report" => call_report(&mut words),

@@ -6,6 +6,7 @@ mod calls;
 mod cases;
 #[cfg(test)]
 mod checks;
+mod choices;
 mod decimal;
 mod files;
 mod lists;
@@ -22,7 +23,8 @@ use std::io::{self, BufWriter, Read, Write};
 
 const USAGE: &str = "usage: second calls                   answers lines of the calls protocol
        second gateway RULES HEADERS   prints what the program prints for two files
-       second edges KIND              writes the fixed lines of a kind: ranges, prefixes, lists, sorting, lookup, protocol
+       second edges KIND              writes the fixed lines of a kind: ranges, prefixes, lists, sorting, choices, lookup,
+                                      protocol
        second stored                  writes the lines that are stored with the crate calls
        second cases SEED COUNT KIND   writes drawn lines of such a kind, or of random or large
        second files DIR               writes the fixed file pairs for the program, a folder each

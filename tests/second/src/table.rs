@@ -1,19 +1,20 @@
-//! 01, The working table: what the build writes, the audit, what a table's opening needs, and the report.
+//! 01, The working table: what is laid out in it, the build, the audit, what a table's opening needs, and the report; 02,
+//! W4: the table of a choice that is brought.
 
-use crate::lists::{checked_rules_of, rules_of, Rule, Shape};
+use crate::choices::{brought, choose, members_of, partitions_of};
+use crate::lists::{check, checked_rules_of, rules_of, Rule, Shape};
 use crate::refusal::{refuse, Refusal};
-use crate::sorting::{ascending, first_fit};
+use crate::sorting::ascending;
 
 /// How many numbers a table of n rules on d fields has.
 pub fn table_length(n: usize, d: usize) -> usize {
     4 + 2 * n + 2 * n * d
 }
 
-/// The table that the build writes for these rules on d fields.
-pub fn table_of(rules: &[Rule], d: usize) -> Vec<u16> {
-    let n = rules.len();
-    let partitions: Vec<Vec<usize>> = first_fit(rules).iter().map(|members| ascending(rules, members)).collect();
-    let b = partitions.len();
+/// The table of these rules on d fields, in the partitions of the run.
+pub fn table_of(rules: &[Rule], run: &[u16], d: usize) -> Vec<u16> {
+    let (n, b) = (rules.len(), partitions_of(run));
+    let partitions: Vec<Vec<usize>> = (0..b).map(|k| ascending(rules, &members_of(run, k))).collect();
     let order: Vec<usize> = partitions.concat();
     let mut starts = vec![0];
     for members in &partitions {
@@ -26,9 +27,9 @@ pub fn table_of(rules: &[Rule], d: usize) -> Vec<u16> {
             for f in 0..d {
                 // the places of this partition whose rules have the same ranges in fields 0 to f
                 let alike = |q: &usize| rules[order[*q]][..=f] == rules[order[p]][..=f];
-                let run: Vec<usize> = (starts[k]..starts[k + 1]).filter(alike).collect();
-                let (first, last) = (run[0], run[run.len() - 1]);
-                assert_eq!(run.len(), last + 1 - first, "a run is a stretch");
+                let places: Vec<usize> = (starts[k]..starts[k + 1]).filter(alike).collect();
+                let (first, last) = (places[0], places[places.len() - 1]);
+                assert_eq!(places.len(), last + 1 - first, "a run of places is a stretch");
                 run_from.push(first);
                 run_to.push(last + 1);
             }
@@ -40,24 +41,55 @@ pub fn table_of(rules: &[Rule], d: usize) -> Vec<u16> {
     table
 }
 
-/// Writes the table and answers the number of partitions, or 1, 2, 3, 4, 5.
-pub fn build(shape: Shape, list: &[u32], table: &mut [u16]) -> Result<usize, Refusal> {
-    let (rules, d) = (checked_rules_of(shape, list)?, shape.d as usize);
-    if table.len() != table_length(rules.len(), d) {
+/// Cuts a list into its rules, for a table of their length, or answers 1, 2, 3, 4, 5.
+fn rules_for(shape: Shape, list: &[u32], table: &[u16]) -> Result<Vec<Rule>, Refusal> {
+    let rules = checked_rules_of(shape, list)?;
+    if table.len() != table_length(rules.len(), shape.d as usize) {
         return Err(refuse(5));
     }
-    table.copy_from_slice(&table_of(&rules, d));
-    Ok(table[2] as usize)
+    Ok(rules)
 }
 
-/// Answers whether every number of the table is what the build would write, or 1, 2, 3, 4, 5.
+/// Writes the table of the list and the run and answers the number of partitions, or 1, 2, 3, 4, 5, 15, 16, 17, 18.
+pub fn lay_out(shape: Shape, list: &[u32], run: &[u16], table: &mut [u16]) -> Result<usize, Refusal> {
+    let (rules, d) = (rules_for(shape, list, table)?, shape.d as usize);
+    let b = brought(&rules, run)?;
+    table.copy_from_slice(&table_of(&rules, run, d));
+    Ok(b)
+}
+
+/// Chooses by first fit and lays the choice out, and answers the number of partitions, or 1, 2, 3, 4, 5.
+pub fn build(shape: Shape, list: &[u32], table: &mut [u16]) -> Result<usize, Refusal> {
+    let mut run = vec![0; check(shape, list)?];
+    choose(shape, list, &mut run)?;
+    lay_out(shape, list, &run, table)
+}
+
+/// The run read off a table: the number of a rule is how many of the b partitions end at or before its place. There is
+/// none where b > n, or where a rule has no place.
+pub fn run_off(table: &Table) -> Option<Vec<u16>> {
+    if table.b() > table.n {
+        return None;
+    }
+    let mut run = Vec::new();
+    for i in 0..table.n {
+        let place = (0..table.n).find(|place| table.order(*place) == i)?;
+        let ended = (0..table.b()).filter(|k| table.start(k + 1) <= place);
+        run.push(ended.count() as u16);
+    }
+    Some(run)
+}
+
+/// Answers whether some run makes the laying out write this table, or 1, 2, 3, 4, 5. Where there is such a run it is the
+/// one read off the table, so that one is laid out, and every number compared.
 /// Reading 4: a wrong n or d in the table is a plain no.
 pub fn audit(shape: Shape, list: &[u32], table: &[u16]) -> Result<bool, Refusal> {
-    let (rules, d) = (checked_rules_of(shape, list)?, shape.d as usize);
-    if table.len() != table_length(rules.len(), d) {
-        return Err(refuse(5));
+    let (n, d) = (rules_for(shape, list, table)?.len(), shape.d as usize);
+    let mut laid = vec![0; table.len()];
+    match run_off(&Table { n, d, numbers: table }) {
+        None => Ok(false),
+        Some(run) => Ok(lay_out(shape, list, &run, &mut laid).is_ok() && laid == table),
     }
-    Ok(table == table_of(&rules, d))
 }
 
 /// A lent table of the right length, read part by part.

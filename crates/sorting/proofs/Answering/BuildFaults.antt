@@ -1,12 +1,12 @@
 -- Laws of the refusals of a build and an audit (`specs/Build.antt`): which of 1 to 5 a list and a table meet.
---     fault-length, fault-none, buildable      5, none of 1 to 5, and what a list and a table are that meet none
+--     fault-length, fault-none, fine-none, buildable      5, none of 1 to 5, and what a list and a table are that meet none
 --     build-by-length, build-by-fine           the same, as the code works it out
---     list-few, five-by-length                       the number of a list's refusal is at most 4, so that 5 tells where it comes from
+--     list-few, build-few, five-by-length            the numbers are at most 4, and 5, so that 5 tells where it comes from
 -- Assumes nothing.
 use Prim.Native.Nat.{ℕ, _≤_}
 use mathlib.Core.Bool.{Bool, true, false}
 use mathlib.Core.List.{List}
-use mathlib.Core.Path.{_≡_, refl, sym, _∙_}
+use mathlib.Core.Path.{_≡_, refl, sym, ap, _∙_}
 use native.Mathlib.Omega.{arith}
 use lib.ListN.{length}
 use lib.Dec.{ltb, eqb}
@@ -30,6 +30,9 @@ module _ (R : Rules) (T : List ℕ) where
   pub fault-none : Buildable R T → buildFault R T ≡ none
   unfolding buildFault
   fault-none h = rw (eq-eqb (listFault R .number) 0 (h .no-fault), eq-eqb (length T) (tableLength (rulesIn R) (fieldsOf R)) (h .sized .long))
+
+  pub fine-none : Buildable R T → buildFault R T .number ≡ 0
+  fine-none h = ap (λ (x : Refusal). x .number) (fault-none h)
 
   -- a list and a table that meet none of them
   pub buildable : buildFault R T .number ≡ 0 → Buildable R T
@@ -68,6 +71,16 @@ list-few R = go (stands (shapeFault R)) (ltb (badRule R) (rulesIn R))
     go true true = omega arith
     go true false = omega arith
     go false t = omega (arith, shape-few R)
+
+-- and with a table by 1 to 5
+pub build-few : (R : Rules) (T : List ℕ) → buildFault R T .number ≤ 5
+unfolding buildFault
+build-few R T = go (stands (listFault R)) (eqb (length T) (tableLength (rulesIn R) (fieldsOf R)))
+  where
+    go : (s t : Bool) → (pick s (pick t none (refused BadTableLength)) (listFault R)) .number ≤ 5
+    go true true = omega arith
+    go true false = omega arith
+    go false t = omega (arith, list-few R)
 
 -- 5 is given where the list is fine and the table is not
 pub five-by-length : (R : Rules) (T : List ℕ) → buildFault R T .number ≡ 5

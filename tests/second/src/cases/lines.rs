@@ -58,6 +58,14 @@ impl Lines {
         self.say(format!("build {} {} {}", self.spelled(shape), counted(list), counted(table)));
     }
 
+    pub fn choose(&mut self, shape: impl Into<Shape>, list: &[u32], run: &[u16]) {
+        self.say(format!("choose {} {} {}", self.spelled(shape), counted(list), counted(run)));
+    }
+
+    pub fn layout(&mut self, shape: impl Into<Shape>, list: &[u32], run: &[u16], table: &[u16]) {
+        self.say(format!("layout {} {} {} {}", self.spelled(shape), counted(list), counted(run), counted(table)));
+    }
+
     pub fn lookup(&mut self, shape: impl Into<Shape>, list: &[u32], table: &[u16], header: &Header) {
         self.say(format!("lookup {} {} {} {}", self.spelled(shape), counted(list), counted(table), bare(header)));
     }

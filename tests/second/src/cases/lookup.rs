@@ -3,10 +3,10 @@
 use super::characters::{dated_list, drawn_header, drawn_shape, spoiled_list, turned};
 use super::lines::Lines;
 use super::shapes::{
-    all_headers, altered, as_dates, built, chain, dated, grid, header_of, nested, permutations, reversed, stairs,
+    all_headers, altered, as_dates, built, chain, dated, grid, header_of, laid, nested, permutations, reversed, stairs,
     twins, ALL, BENCH, ODD_FIELDS, TOP,
 };
-use super::tables::{damage, looks_right};
+use super::tables::{damage, drawn_choice, looks_right};
 use crate::lists::{Header, Shape};
 use crate::seed::Seed;
 
@@ -346,12 +346,13 @@ pub fn edges(out: &mut Lines) {
     many_rules(out);
 }
 
-/// A few drawn lookups on one drawn list: over its table, under other flags, damaged, under a list with ends turned
-/// around, and over a table that was never built; last with a wrong length.
+/// A few drawn lookups on one drawn list: over its table, or that of a choice that was brought, under other flags, damaged,
+/// under a list with ends turned around, and over a table that was never built; last with a wrong length.
 pub fn drawn(seed: &mut Seed, out: &mut Lines) {
     let (shape, list) = dated_list(seed);
     let n = list.len() / (2 * shape.d as usize);
-    let table = built(shape, &list);
+    let brought = drawn_choice(seed, shape, &list);
+    let table = if seed.once_in(2) { built(shape, &list) } else { laid(shape, &list, &brought) };
     let other_shape = drawn_shape(seed, shape.d);
     for shape in [shape, shape, shape, other_shape] {
         out.lookup(shape, &list, &table, &drawn_header(seed, shape, &list));

@@ -2,6 +2,7 @@
 //! that are stored.
 
 pub mod characters;
+pub mod choices;
 pub mod lines;
 mod lists;
 pub mod lookup;
@@ -25,6 +26,7 @@ pub fn edges(kind: &str) -> Option<Lines> {
         "prefixes" => prefixes::edges(&mut out),
         "lists" => lists::edges(&mut out),
         "sorting" => sorting::edges(&mut out),
+        "choices" => choices::edges(&mut out),
         "lookup" => lookup::edges(&mut out),
         "protocol" => protocol::edges(&mut out),
         _ => return None,
@@ -46,6 +48,7 @@ pub fn drawn(kind: &str, seed: u64, count: usize) -> Option<Lines> {
         "prefixes" => prefixes::drawn,
         "lists" => lists::drawn,
         "sorting" => sorting::drawn,
+        "choices" => choices::drawn,
         "lookup" => lookup::drawn,
         "protocol" => protocol::drawn,
         "random" => random::drawn,

@@ -4,10 +4,12 @@ use super::lines::{counted, Lines};
 use crate::seed::Seed;
 
 /// One good line for each word.
-pub const GOOD: [&str; 10] = [
+pub const GOOD: [&str; 12] = [
     "check 1 4 1 2 3 4",
     "scan 1 4 1 2 3 4 3 0 0 0 0 0 0 0",
     "build 1 2 5 6 8 9 9 9 9 9 9 9 9",
+    "choose 1 4 1 2 2 4 2 9 9",
+    "layout 1 2 5 6 1 0 8 9 9 9 9 9 9 9 9",
     "lookup 1 2 5 6 8 1 1 1 0 0 1 0 1 5 0 0 0 0 0 0 0",
     "audit 1 2 5 6 8 1 1 1 0 0 1 0 1",
     "report 1 2 5 6 8 1 1 1 0 0 1 0 1 0",
@@ -152,6 +154,8 @@ fn shapes(out: &mut Lines) {
 fn unknown_words(out: &mut Lines) {
     for word in
         ["", " ", "  ", "help", "chec", "checks", "Check", "p2", "p2rr", "r2", "ok", "bad", "#", "check\0", "\u{e9}"]
+            .into_iter()
+            .chain(["choos", "chooses", "choices", "lay_out", "lay", "layouts", "Layout", "layoutr", "checkoose"])
     {
         out.raw(word.as_bytes());
         out.raw(format!("{} 1 0", word).as_bytes());
@@ -172,6 +176,20 @@ fn limits(out: &mut Lines) {
     out.raw(format!("build 1 0 {}", zeros(18501)).as_bytes());
     out.raw(format!("r2p 0 0 5 {}", zeros(200)).as_bytes());
     out.raw(format!("r2p 0 0 5 {}", zeros(201)).as_bytes());
+    for length in [1100, 1101] {
+        out.raw(format!("choose 1 0 {}", zeros(length)).as_bytes());
+        out.raw(format!("layout 1 0 {} {}", zeros(length), zeros(4)).as_bytes());
+    }
+    // every part at the most that is held, and each in turn past it
+    for (list, run, table) in [(16500, 1100, 18500), (16501, 1100, 18500), (16500, 1101, 18500), (16500, 1100, 18501)] {
+        out.raw(format!("layout 8 {} {} {}", zeros(list), zeros(run), zeros(table)).as_bytes());
+    }
+    for length in ["200", "201", "1100", "1101", "65536", "65537", "4294967295", "4294967296"] {
+        out.raw(format!("choose 1 2 5 6 {}", length).as_bytes());
+        out.raw(format!("choose 1 2 5 6 {} 0", length).as_bytes());
+        out.raw(format!("layout 1 2 5 6 {} 0 8 9 9 9 9 9 9 9 9", length).as_bytes());
+        out.raw(format!("layout 1 2 5 6 1 0 {} 9 9 9 9 9 9 9 9", length).as_bytes());
+    }
     for length in ["16500", "16501", "65536", "4294967295", "4294967296"] {
         out.raw(format!("check 1 {}", length).as_bytes());
         out.raw(format!("check 1 {} 0 0", length).as_bytes());
@@ -181,9 +199,15 @@ fn limits(out: &mut Lines) {
     for number in ["65535", "65536", "65537", "131072", "4294967295"] {
         out.raw(format!("build 1 0 4 {} 0 0 0", number).as_bytes());
         out.raw(format!("audit 1 0 4 0 1 0 {}", number).as_bytes());
+        out.raw(format!("choose 1 2 5 6 1 {}", number).as_bytes());
+        out.raw(format!("choose 1 2 5 6 2 0 {}", number).as_bytes());
+        out.raw(format!("layout 1 2 5 6 1 {} 8 9 9 9 9 9 9 9 9", number).as_bytes());
+        out.raw(format!("layout 1 2 5 6 1 0 8 9 9 9 9 9 9 9 {}", number).as_bytes());
         out.raw(format!("lookup 1 0 4 0 1 0 {} 0 0 0 0 0 0 0 0", number).as_bytes());
     }
     out.raw(b"build 1 0 0");
+    out.raw(b"choose 1 0 0");
+    out.raw(b"layout 1 0 0 0");
     out.raw(b"r2p 0 0 5 0");
     out.raw(b"check 4294967295 0");
     out.raw(b"p2r 4294967295 4294967295 4294967295");

@@ -1,6 +1,8 @@
 //! Lists, tables and headers that several kinds of cases are made from, none of them drawn.
 
+use crate::choices::brought;
 use crate::lists::{rules_of, Header, Shape};
+use crate::sorting::first_fit;
 use crate::table::{table_length, table_of};
 
 pub const TOP: u32 = 4294967295;
@@ -101,11 +103,39 @@ pub fn all_headers(d: u32, top: u32) -> Vec<Header> {
     headers
 }
 
+/// All runs of n numbers, each 0 to top.
+pub fn all_runs(n: usize, top: u16) -> Vec<Vec<u16>> {
+    let mut runs = vec![Vec::new()];
+    for _ in 0..n {
+        let longer = |run: &Vec<u16>| (0..=top).map(|k| [&run[..], &[k]].concat()).collect::<Vec<Vec<u16>>>();
+        runs = runs.iter().flat_map(longer).collect();
+    }
+    runs
+}
+
+/// All choices of partitions for a list, of few rules, that the laying out takes.
+pub fn all_choices(shape: impl Into<Shape>, list: &[u32]) -> Vec<Vec<u16>> {
+    let rules = rules_of(shape.into(), list).expect("a list of the right length");
+    let runs = all_runs(rules.len(), rules.len() as u16);
+    runs.into_iter().filter(|run| brought(&rules, run).is_ok()).collect()
+}
+
+/// The first-fit choice of a list of the right length.
+pub fn chosen(shape: impl Into<Shape>, list: &[u32]) -> Vec<u16> {
+    first_fit(&rules_of(shape.into(), list).expect("a list of the right length"))
+}
+
+/// The table of a list and a choice, which the laying out does not refuse.
+pub fn laid(shape: impl Into<Shape>, list: &[u32], run: &[u16]) -> Vec<u16> {
+    let shape = shape.into();
+    let rules = rules_of(shape, list).expect("a list of the right length");
+    table_of(&rules, run, shape.d as usize)
+}
+
 /// The table that the build writes for a list of the right length, which the build does not refuse with 4.
 pub fn built(shape: impl Into<Shape>, list: &[u32]) -> Vec<u16> {
     let shape = shape.into();
-    let rules = rules_of(shape, list).expect("a list of the right length");
-    table_of(&rules, shape.d as usize)
+    laid(shape, list, &chosen(shape, list))
 }
 
 /// A table of the right length for n rules on d fields, filled with numbers that the build would not leave.

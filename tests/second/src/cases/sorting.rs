@@ -131,7 +131,7 @@ fn small_built(out: &mut Lines, each: fn(&mut Lines, Shape, &[u32])) {
     each(out, dated(3, 0b101), &[7, 9, 8, 8, 9, 10, 7, 9, 8, 8, 5, 9, 7, 9, 0, 3, 9, 10]);
 }
 
-/// The built table is yes; with any single number altered it is no.
+/// The built table is yes; of these lists, with any single number altered it is no.
 fn audits(out: &mut Lines, shape: Shape, list: &[u32]) {
     let table = built(shape, list);
     out.audit(shape, list, &table);
@@ -140,8 +140,8 @@ fn audits(out: &mut Lines, shape: Shape, list: &[u32]) {
     }
 }
 
-/// 02, W8: the table of a list under some flags, audited under others: yes where both builds write the same. A report is
-/// the same.
+/// 02, W8: the table of a list under some flags, audited under others: yes where its choice has no clash there and is laid
+/// out alike (02, W4), first fit or not. A report is the same.
 fn other_flags(out: &mut Lines) {
     for list in [chain(3, 2), as_dates(dated(2, 3), &grid(2)), vec![1, 5, 0, 4, 5, 9, 4, 8, 1, 5, 4, 8]] {
         for built_flags in 0..4 {

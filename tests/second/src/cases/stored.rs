@@ -2,12 +2,13 @@
 //! each word in good cases, with dates too, each refusal of each word in its order, faults of a line, and the edges that
 //! 01 names. They are few; the edges of all kinds are compared by tests/run.
 
+use super::choices::{self, choose, lay, renumbered};
 use super::lines::Lines;
 use super::lists::three;
 use super::lookup::{look, MARKED, WIDE_RUN};
 use super::prefixes::{self, into_runs, lent};
 use super::protocol::{replaced, GOOD, WORKED};
-use super::shapes::{built, chain, dated, header_of, nested, reversed, stairs, twins, ALL, BENCH, TOP};
+use super::shapes::{built, chain, chosen, dated, header_of, laid, nested, reversed, stairs, twins, ALL, BENCH, TOP};
 use super::sorting::build;
 use crate::lists::Shape;
 
@@ -24,7 +25,8 @@ fn marked(out: &mut Lines) {
     prefixes::marked(out);
 }
 
-/// Every call on one list: its table built, audited, looked up in, and reported on up to the first partition it lacks.
+/// Every call on one list: its table built, audited, looked up in, and reported on up to the first partition it lacks; its
+/// first fit, laid out with the partitions numbered from the last on.
 fn every_call(out: &mut Lines, shape: impl Into<Shape>, list: &[u32], header: &[u32]) {
     let shape = shape.into();
     let (table, header) = (built(shape, list), header_of(header, TOP));
@@ -37,6 +39,8 @@ fn every_call(out: &mut Lines, shape: impl Into<Shape>, list: &[u32], header: &[
     for p in 0..=table[2] as u32 {
         out.report(shape, list, &table, p);
     }
+    choose(out, shape, list);
+    lay(out, shape, list, &renumbered(&chosen(shape, list)));
 }
 
 /// No rule; twins; rules in one partition and in several; 0 and 4294967295 at either end, low equal to high.
@@ -69,11 +73,13 @@ fn of_a_table(out: &mut Lines, shape: impl Into<Shape>, list: &[u32], table: &[u
     out.report(shape, list, table, 0);
 }
 
-/// The seven calls that take a list.
+/// The nine calls that take a list; a run, where the call takes one, has the one number 7.
 fn of_a_list(out: &mut Lines, shape: impl Into<Shape>, list: &[u32], table: &[u16]) {
     let shape = shape.into();
     three(out, shape, list);
     of_a_table(out, shape, list, table);
+    out.choose(shape, list, &[7]);
+    out.layout(shape, list, &[7], table);
 }
 
 /// 1 to 5 of every call that has them, each where all that come after it would apply too.
@@ -102,6 +108,51 @@ fn refusals(out: &mut Lines) {
     of_a_table(out, 2, &BENCH, &[]);
 }
 
+/// 02, W4: lines worked by hand; 5 before 15 to 18, each of these where all that come after it would apply too; runs one
+/// number short and too long; the largest number that stands, the next, and 65535.
+fn brought_choices(out: &mut Lines) {
+    for (line, _) in choices::WORKED {
+        out.raw(line.as_bytes());
+    }
+    let list = [7, 7, 7, 7, 8, 8];
+    out.layout(1, &list, &[3, 3, 0, 0], &[0; 15]);
+    for run in [&[3, 3, 0, 0][..], &[3, 3, 0], &[2, 2, 0], &[1, 1, 0], &[2, 1, 0]] {
+        lay(out, 1, &list, run);
+    }
+    for run in [&[][..], &[0, 1], &[0, 1, 1, 0], &[0, 1, 3], &[0, 1, 65535], &[0, 2, 2], &[1, 2, 2], &[0, 1, 0]] {
+        out.choose(1, &list, run);
+        lay(out, 1, &list, run);
+    }
+    // a clash in a partition other than the first, of rules that have another between them
+    lay(out, 2, &BENCH, &[0, 1, 0, 1, 2]);
+    lay(out, 2, &BENCH, &[1, 0, 1, 2, 1]);
+}
+
+/// 02, W4: audits of choices that are brought: a start that moves to another choice's place, partitions in another order;
+/// a clash, an empty partition, an order that is not ascending, a rule twice, and numbers behind the last start.
+fn brought_tables(out: &mut Lines) {
+    let list = stairs(3, 1);
+    for run in [[0, 0, 0], [0, 1, 1], [1, 0, 0], [2, 1, 0]] {
+        out.audit(1, &list, &laid(1, &list, &run));
+        out.lookup(1, &list, &laid(1, &list, &run), &[4; 8]);
+    }
+    for (at, number) in [(3, 1), (7, 0), (7, 2), (7, 3), (9, 3), (11, 0), (14, 3)] {
+        out.audit(1, &list, &with(&laid(1, &list, &[0, 1, 1]), at, number));
+    }
+    for (b, order, starts) in [
+        (1, [1, 0, 2], [0, 3, 0, 0]),
+        (2, [2, 0, 1], [0, 1, 3, 0]),
+        (2, [2, 1, 0], [0, 1, 3, 0]),
+        (3, [0, 1, 2], [0, 1, 1, 3]),
+        (3, [0, 1, 2], [0, 2, 1, 3]),
+        (0, [0, 1, 2], [3, 0, 0, 0]),
+        (4, [0, 1, 2], [0, 1, 2, 3]),
+        (65535, [0, 1, 2], [0, 1, 2, 3]),
+    ] {
+        out.audit(1, &list, &[&[3, 1, b][..], &order, &starts, &[0, 1, 2, 1, 2, 3]].concat());
+    }
+}
+
 /// 4's place: the smallest rule, then the smallest field of it.
 fn places_of_4(out: &mut Lines) {
     for first in 0..9 {
@@ -123,6 +174,8 @@ fn many_rules(out: &mut Lines) {
     out.scan(1, &each, &[8; 8]);
     out.independent(1, &one);
     build(out, 1, &each);
+    choose(out, 1, &each);
+    lay(out, 1, &each, &(0..1024).rev().collect::<Vec<u16>>());
     look(out, 1, &one, &[0; 8]);
     out.report(1, &each, &built(1, &each), 1023);
 }
@@ -230,6 +283,9 @@ fn dates(out: &mut Lines) {
         out.raw(line.as_bytes());
     }
     every_call(out, dated(2, 2), &[7, 7, 5, 9, 7, 7, 1, 5], &[7, 5]);
+    for flags in [0, 1, 2, ALL] {
+        lay(out, dated(1, flags), &chain(2, 1), &[0, 0]);
+    }
     out.lookup(dated(2, ALL - 2), &chain(2, 2), &built(dated(2, 1), &chain(2, 2)), &header_of(&[1, 2], 0));
     of_a_list(out, dated(2, 2), &[7, 7, 7, 8, 7, 7, 7, 7], &built(2, &stairs(2, 2)));
     for (low, high, number) in [(5, 9, 4), (5, 9, 5), (5, 9, 7), (5, 9, 8), (5, 9, 9), (5, 5, 5), (7, 0, 6), (7, 0, 7)]
@@ -300,8 +356,8 @@ fn counts_of_zeros(out: &mut Lines) {
 }
 
 /// Words that are none, also in capitals and with a byte more; bytes beside the digits; lengths that are not held, and
-/// a length and a table's number too large by one; flags fewer, more and others, and a colon where none belongs.
-const FAULTY: [&[u8]; 28] = [
+/// lengths and a table's and a run's number too large by one; flags fewer, more and others, and a colon where none belongs.
+const FAULTY: [&[u8]; 32] = [
     b"",
     b" ",
     b"check",
@@ -321,6 +377,10 @@ const FAULTY: [&[u8]; 28] = [
     b"r2p 0 0 5 4294967295",
     b"p2r 0 0 4294967296",
     b"audit 1 0 4 0 1 0 65536",
+    b"lay_out 1 0 0 4 0 0 0 0",
+    b"choose 1 0 1101",
+    b"choose 1 2 5 6 1 65536",
+    b"layout 1 2 5 6 1 65536 8 9 9 9 9 9 9 9 9",
     b"check 1:0000000 0",
     b"check 1:000000000 0",
     b"check 1:00000002 0",
@@ -353,6 +413,10 @@ fn faults(out: &mut Lines) {
 fn limits(out: &mut Lines) {
     out.r2p(0, 0, 5, &lent(200));
     out.r2p(0, 0, 5, &lent(201));
+    for length in [1100, 1101] {
+        out.choose(1, &[], &vec![0; length]);
+        out.layout(1, &[], &vec![0; length], &[7; 4]);
+    }
     out.build(1, &[], &[]);
     out.audit(1, &[], &[0, 1, 0, 65535]);
     out.check(TOP, &[]);
@@ -363,6 +427,8 @@ pub fn lines(out: &mut Lines) {
     marked(out);
     good(out);
     refusals(out);
+    brought_choices(out);
+    brought_tables(out);
     places_of_4(out);
     many_rules(out);
     broken_openings(out);

@@ -1,7 +1,55 @@
-//! Drawn tables: damaged ones, and ones that look right and were never built.
+//! Drawn choices of partitions, right ones and spoiled ones; and drawn tables: damaged ones, and ones that look right and
+//! were never built.
 
+use crate::lists::{rules_of, Shape};
 use crate::seed::Seed;
+use crate::sorting::{standing, Standing};
 use crate::table::table_length;
+
+/// A choice that the laying out takes: each rule, in a drawn order, goes into a drawn partition in which it clashes with no
+/// member, or opens one, as it must or now and then; then the partitions are numbered in a drawn order.
+pub fn drawn_choice(seed: &mut Seed, shape: Shape, list: &[u32]) -> Vec<u16> {
+    let rules = rules_of(shape, list).expect("a list of the right length");
+    let opens = seed.pick(&[2, 4, 100]);
+    let mut order: Vec<usize> = (0..rules.len()).collect();
+    seed.shuffle(&mut order);
+    let mut partitions: Vec<Vec<usize>> = Vec::new();
+    for i in order {
+        let apart = |j: &usize| standing(&rules[i], &rules[*j]) != Standing::Clash;
+        let free: Vec<usize> = (0..partitions.len()).filter(|k| partitions[*k].iter().all(apart)).collect();
+        if free.is_empty() || seed.once_in(opens) {
+            partitions.push(vec![i]);
+        } else {
+            partitions[seed.pick(&free)].push(i);
+        }
+    }
+    seed.shuffle(&mut partitions);
+    let mut run = vec![0; rules.len()];
+    for (k, members) in partitions.iter().enumerate() {
+        for i in members {
+            run[*i] = k as u16;
+        }
+    }
+    run
+}
+
+/// Spoils a run, which by chance may still be right: its length; a number of n or more; a gap at 0, or below the largest
+/// number; two rules put together; any numbers.
+pub fn spoiled_run(seed: &mut Seed, run: &mut Vec<u16>) {
+    let n = run.len();
+    let (at, to) = (seed.below(n + 1), seed.below(n + 1));
+    match seed.below(9) {
+        0 => drop(run.pop()),
+        1 => run.push(seed.below(n + 1) as u16),
+        2 => run.resize(seed.below(1101), seed.below(n + 1) as u16),
+        _ if n == 0 => (),
+        3 => run[at % n] = seed.pick(&[n as u16, n as u16 + 1, 32768, 65535]),
+        4 => run.iter_mut().for_each(|k| *k += 1),
+        5 => run[at % n] = n as u16 - 1,
+        6 | 7 => run[at % n] = run[to % n],
+        _ => run.iter_mut().for_each(|k| *k = seed.below(n) as u16),
+    }
+}
 
 /// A number that a table of n rules could hold, or just could not.
 fn drawn_number(seed: &mut Seed, n: usize) -> u16 {

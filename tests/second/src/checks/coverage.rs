@@ -5,14 +5,16 @@ use std::collections::BTreeSet;
 use crate::calls::answer;
 use crate::cases::{drawn, edges, stored};
 
-const KINDS: [&str; 6] = ["ranges", "prefixes", "lists", "sorting", "lookup", "protocol"];
+const KINDS: [&str; 7] = ["ranges", "prefixes", "lists", "sorting", "choices", "lookup", "protocol"];
 
-/// 01, Refusal numbers: the checks of each call.
-pub const REFUSALS: [(&str, &[u32]); 10] = [
+/// 01, Refusal numbers, and 02, W4: the checks of each call.
+pub const REFUSALS: [(&str, &[u32]); 12] = [
     ("check", &[1, 2, 3, 4]),
     ("scan", &[1, 2, 3, 4]),
     ("independent", &[1, 2, 3, 4]),
     ("build", &[1, 2, 3, 4, 5]),
+    ("choose", &[1, 2, 3, 4, 15]),
+    ("layout", &[1, 2, 3, 4, 5, 15, 16, 17, 18]),
     ("audit", &[1, 2, 3, 4, 5]),
     ("lookup", &[1, 2, 3, 5, 6]),
     ("report", &[1, 2, 3, 5, 6, 7]),
@@ -55,11 +57,14 @@ fn drawn_cases_bring_up_every_refusal_of_their_layer() {
         ("prefixes", vec!["p2r", "r2p"]),
         ("lists", vec!["check", "scan", "independent"]),
         ("sorting", vec!["build", "audit", "report"]),
+        ("choices", vec!["choose", "layout"]),
         ("lookup", vec!["lookup"]),
     ] {
-        let wanted: BTreeSet<(String, u32)> =
-            all_refusals().into_iter().filter(|(call, _)| calls.contains(&call.as_str())).collect();
-        assert_eq!(refusals_of(&drawn(kind, 8, 20000).unwrap().lines), wanted);
+        let of_the_layer = |all: BTreeSet<(String, u32)>| -> BTreeSet<(String, u32)> {
+            all.into_iter().filter(|(call, _)| calls.contains(&call.as_str())).collect()
+        };
+        let said = of_the_layer(refusals_of(&drawn(kind, 8, 20000).unwrap().lines));
+        assert_eq!(said, of_the_layer(all_refusals()));
     }
 }
 
@@ -86,12 +91,27 @@ fn lookups_come_to_edges_and_between_them() {
 }
 
 #[test]
+fn audits_of_choices_are_yes_and_no_and_lookups_hit_and_miss() {
+    for lines in [edges("choices").unwrap(), drawn("choices", 20, 8000).unwrap(), stored()] {
+        let said = |word: &str| {
+            let of_word = lines.lines.iter().filter(|line| line.starts_with(word.as_bytes()));
+            of_word.map(|line| answer(line)).collect::<Vec<String>>()
+        };
+        let (audits, lookups) = (said("audit "), said("lookup "));
+        assert!(audits.iter().filter(|said| *said == "ok yes").count() >= 20);
+        assert!(audits.iter().filter(|said| *said == "ok no").count() >= 20);
+        assert!(lookups.iter().any(|said| said.starts_with("ok none ")));
+        assert!(lookups.iter().any(|said| said.ends_with(" plain") && !said.starts_with("ok none ")));
+    }
+}
+
+#[test]
 fn only_the_protocol_has_faulty_lines() {
     for kind in KINDS {
         let faulty = edges(kind).unwrap().lines.iter().filter(|line| answer(line) == "bad").count();
         assert_eq!(faulty > 0, kind == "protocol", "{}: {} faulty", kind, faulty);
     }
-    for kind in ["ranges", "prefixes", "lists", "sorting", "lookup", "random", "large"] {
+    for kind in ["ranges", "prefixes", "lists", "sorting", "choices", "lookup", "random", "large"] {
         assert!(drawn(kind, 9, 60).unwrap().lines.iter().all(|line| answer(line) != "bad"));
     }
 }

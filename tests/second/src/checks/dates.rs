@@ -16,13 +16,18 @@ use crate::refusal::refuse;
 use crate::seed::Seed;
 use crate::sorting::{standing, Standing};
 
-/// The answers to every call on a list, its table and a header; the report is one on partition 0.
+/// The answers to every call on a list, its table and a header; the report is one on partition 0, and what is laid out has
+/// a partition for each rule.
 fn answers(shape: Shape, list: &[u32], table: &[u16], header: &Header) -> Vec<String> {
     let mut out = Lines::default();
     out.check(shape, list);
     out.scan(shape, list, header);
     out.independent(shape, list);
     out.build(shape, list, &vec![9; table.len()]);
+    let own: Vec<u16> = (0..table[0]).collect();
+    out.choose(shape, list, &own);
+    out.layout(shape, list, &own, &vec![9; table.len()]);
+    out.layout(shape, list, &vec![0; own.len()], &vec![9; table.len()]);
     out.audit(shape, list, table);
     out.lookup(shape, list, table, header);
     out.report(shape, list, table, 0);
@@ -188,10 +193,11 @@ fn every_call_comes_with_dates_and_without() {
         ("ranges", vec!["side"]),
         ("lists", vec!["check", "scan", "independent"]),
         ("sorting", vec!["build", "audit", "report"]),
+        ("choices", vec!["choose", "layout", "audit", "lookup"]),
         ("lookup", vec!["lookup"]),
-        ("random", vec!["check", "scan", "independent", "build", "audit", "report", "lookup"]),
+        ("random", vec!["check", "scan", "independent", "build", "choose", "layout", "audit", "report", "lookup"]),
     ] {
-        let said = calls_and_flags(&drawn(kind, 19, 4000).unwrap());
+        let said = calls_and_flags(&drawn(kind, 19, 8000).unwrap());
         for call in calls {
             let flags = said.iter().filter(|(word, _)| word == call).map(|(_, flags)| flags.as_str());
             let (set, all) = (flags.clone().filter(|flags| flags.contains('1')).count(), flags.clone().count());
@@ -200,7 +206,7 @@ fn every_call_comes_with_dates_and_without() {
             assert!(some.len() > 50 && ["", "00000000", "11111111"].iter().all(|flags| some.contains(flags)));
         }
     }
-    for kind in ["ranges", "lists", "sorting", "lookup"] {
+    for kind in ["ranges", "lists", "sorting", "choices", "lookup"] {
         assert!(calls_and_flags(&edges(kind).unwrap()).iter().filter(|(_, flags)| flags.contains('1')).count() > 100);
     }
     assert!(calls_and_flags(&edges("prefixes").unwrap()).iter().all(|(_, flags)| flags.is_empty()));

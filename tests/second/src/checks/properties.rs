@@ -63,7 +63,7 @@ fn lookup_is_first_match_for_1024_rules() {
 }
 
 /// Walks every partition that has places; answers how many walks were not refused.
-fn walks_keep_the_bound(shape: Shape, list: &[u32], table: &[u16], header: &[u32; 8]) -> usize {
+pub fn walks_keep_the_bound(shape: Shape, list: &[u32], table: &[u16], header: &[u32; 8]) -> usize {
     let mut walked = 0;
     if let Ok((rules, table)) = open(shape, list, table) {
         for k in 0..table.b() {
@@ -165,8 +165,8 @@ fn numbers_past_d_alter_nothing() {
     }
 }
 
-/// The partition of each rule, read off a table.
-fn choice_of(table: &[u16], n: usize) -> Vec<usize> {
+/// The partition of each rule, read off a table place by place.
+pub fn choice_of(table: &[u16], n: usize) -> Vec<usize> {
     let mut choice = vec![0; n];
     for k in 0..table[2] as usize {
         for place in table[3 + n + k]..table[3 + n + k + 1] {
@@ -182,7 +182,7 @@ fn before(rules: &[Rule], i: usize, j: usize, fields: usize) -> bool {
 }
 
 /// The choice is first fit: no clash within a partition, and in each lower one a clash with an earlier rule.
-fn assert_first_fit(rules: &[Rule], choice: &[usize]) {
+pub fn assert_first_fit(rules: &[Rule], choice: &[usize]) {
     let clash = |i: usize, j: usize| standing(&rules[i], &rules[j]) == Standing::Clash;
     for i in 0..rules.len() {
         assert!((0..i).all(|j| choice[j] != choice[i] || !clash(i, j)));
@@ -192,7 +192,7 @@ fn assert_first_fit(rules: &[Rule], choice: &[usize]) {
 
 /// The table by counting alone: the place of a rule is how many rules have a lower partition, or the same and come
 /// before it; run-from is that count by fields 0 to f, and run-to adds how many are alike there.
-fn assert_counted(rules: &[Rule], d: usize, choice: &[usize], table: &[u16]) {
+pub fn assert_counted(rules: &[Rule], d: usize, choice: &[usize], table: &[u16]) {
     let n = rules.len();
     let count = |test: &dyn Fn(usize) -> bool| (0..n).filter(|j| test(*j)).count();
     for i in 0..n {
@@ -231,7 +231,7 @@ fn a_built_table_is_what_counting_gives() {
 }
 
 #[test]
-fn an_audit_says_no_to_every_single_change() {
+fn an_audit_says_no_to_every_single_change_of_some_built_tables() {
     for (d, list) in [(2, BENCH.to_vec()), (1, vec![]), (1, stairs(5, 1)), (3, grid(3))] {
         let (shape, table) = (Shape::from(d), built(d, &list));
         assert_eq!(audit(shape, &list, &table), Ok(true));

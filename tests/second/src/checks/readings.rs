@@ -132,6 +132,12 @@ fn lines_of_the_calls_protocol() {
     assert_eq!(says("build 1 2 7 7 8 9 9 9 9 9 9 9 9"), "ok 1 table 1 1 1 0 0 1 0 1");
     assert_eq!(says("build 1 2 7 7 3 9 9 9"), "refused 5 0 0 table 9 9 9");
     assert_eq!(says("build 1 2 7 7 0"), "refused 5 0 0 table");
+    assert_eq!(says("choose 1 4 7 7 7 7 2 9 9"), "ok 2 run 0 1");
+    assert_eq!(says("choose 1 4 7 7 7 7 0"), "refused 15 0 0 run");
+    assert_eq!(says("choose 1 2 8 7 2 9 9"), "refused 4 0 0 run 9 9");
+    assert_eq!(says("layout 1 2 7 7 1 0 8 9 9 9 9 9 9 9 9"), "ok 1 table 1 1 1 0 0 1 0 1");
+    assert_eq!(says("layout 1 2 7 7 1 1 8 9 9 9 9 9 9 9 9"), "refused 16 0 0 table 9 9 9 9 9 9 9 9");
+    assert_eq!(says("layout 1 2 7 7 1 1 0"), "refused 5 0 0 table");
     assert_eq!(says("lookup 1 2 7 7 8 1 1 1 0 0 1 0 1 7 0 0 0 0 0 0 0"), "ok 0 1 edge");
     assert_eq!(says("lookup 1 2 7 7 8 1 1 1 0 0 1 0 1 8 0 0 0 0 0 0 0"), "ok none 1 plain");
     assert_eq!(says("audit 1 2 7 7 8 1 1 1 0 0 1 0 1"), "ok yes");
@@ -178,4 +184,25 @@ fn lines_of_the_calls_protocol() {
     {
         assert_eq!(says(bad), "bad");
     }
+    for bad in [
+        "choose 1 2 7 7",
+        "choose 1 2 7 7 1",
+        "choose 1 2 7 7 1 0 0",
+        "choose 1 2 7 7 1 65536",
+        "choose 1 2 7 7 1101",
+        "layout 1 2 7 7 1 0",
+        "layout 1 2 7 7 1 0 1",
+        "layout 1 2 7 7 1 65536 0",
+        "layout 1 2 7 7 1 0 1 65536",
+        "lay_out 1 0 0 0",
+    ] {
+        assert_eq!(says(bad), "bad");
+    }
+    // a run of 1,100 numbers is held, and of 1,101 is not; a run of r2p has 200 at most, as before
+    let zeros = |length: usize| format!("{}{}", length, " 0".repeat(length));
+    assert!(says(&format!("choose 1 0 {}", zeros(1100))).starts_with("refused 15 0 0 run 0 0"));
+    assert_eq!(says(&format!("choose 1 0 {}", zeros(1101))), "bad");
+    assert_eq!(says(&format!("layout 1 0 {} 1 7", zeros(1100))), "refused 5 0 0 table 7");
+    assert_eq!(says(&format!("layout 1 0 {} 1 7", zeros(1101))), "bad");
+    assert_eq!(says(&format!("r2p 0 0 5 {}", zeros(201))), "bad");
 }

@@ -28,6 +28,12 @@ call-independent-requires c κs = search needs
 enum-known-word : tie.Need-enum-known-word
 enum-known-word c = search needs
 
+call-choice-requires : tie.Need-call-choice-requires
+call-choice-requires c κs = search needs
+
+enum-known-word-2 : tie.Need-enum-known-word-2
+enum-known-word-2 c = search needs
+
 call-table-requires : tie.Need-call-table-requires
 call-table-requires c κs = search needs
 
@@ -97,7 +103,7 @@ same-length-8 c = search needs
 returns-4 : tie.Need-returns-4
 returns-4 c =
     let is = c .before .before .before .before .before .before .word .given .1 in
-    (rw is (c .before .before .call-table .ensures), rw is refl)
+    (rw is (c .before .before .call-choice .ensures), rw is refl)
 
 same-length-9 : tie.Need-same-length-9
 same-length-9 c = search needs
@@ -107,8 +113,8 @@ same-length-10 c = search needs
 
 returns-5 : tie.Need-returns-5
 returns-5 c =
-    let is = c .before .before .before .before .before .enum-told4 .given .1 in
-    (rw is (few-more (omega arith) (c .before .before .call-side .ensures)), rw is refl)
+    let is = c .before .before .before .before .before .before .word2 .given .1 in
+    (rw is (c .before .before .call-table .ensures), rw is refl)
 
 same-length-11 : tie.Need-same-length-11
 same-length-11 c = search needs
@@ -118,8 +124,8 @@ same-length-12 c = search needs
 
 returns-6 : tie.Need-returns-6
 returns-6 c =
-    let is = c .before .before .before .before .before .enum-told5 .given .1 in
-    (rw is (few-more (omega arith) (c .before .before .call-p2r .ensures)), rw is refl)
+    let is = c .before .before .before .before .before .enum-told4 .given .1 in
+    (rw is (few-more (omega arith) (c .before .before .call-side .ensures)), rw is refl)
 
 same-length-13 : tie.Need-same-length-13
 same-length-13 c = search needs
@@ -129,14 +135,25 @@ same-length-14 c = search needs
 
 returns-7 : tie.Need-returns-7
 returns-7 c =
-    let is = c .before .before .before .before .before .before .before .enum-told6 .given .1 in
-    (rw is (c .before .before .before .before .call-r2p .ensures .0), rw is (c .before .before .before .before .call-r2p .ensures .1))
+    let is = c .before .before .before .before .before .enum-told5 .given .1 in
+    (rw is (few-more (omega arith) (c .before .before .call-p2r .ensures)), rw is refl)
 
 same-length-15 : tie.Need-same-length-15
 same-length-15 c = search needs
 
+same-length-16 : tie.Need-same-length-16
+same-length-16 c = search needs
+
 returns-8 : tie.Need-returns-8
 returns-8 c =
+    let is = c .before .before .before .before .before .before .before .enum-told6 .given .1 in
+    (rw is (c .before .before .before .before .call-r2p .ensures .0), rw is (c .before .before .before .before .call-r2p .ensures .1))
+
+same-length-17 : tie.Need-same-length-17
+same-length-17 c = search needs
+
+returns-9 : tie.Need-returns-9
+returns-9 c =
     let is = c .before .before .before .before .enum-told7 .given .1 in
     (rw is (few-more (omega arith) (c .before .before .put-bad .ensures)), rw is refl)
 
@@ -151,6 +168,8 @@ put-word-spec =
     enum-told-3
     call-independent-requires
     enum-known-word
+    call-choice-requires
+    enum-known-word-2
     call-table-requires
     enum-told-4
     call-side-requires
@@ -182,4 +201,7 @@ put-word-spec =
     same-length-14
     returns-7
     same-length-15
-    returns-8)
+    same-length-16
+    returns-8
+    same-length-17
+    returns-9)

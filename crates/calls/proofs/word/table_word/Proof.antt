@@ -68,8 +68,8 @@ returns-4 c =
       same-list-is _ (bytes "report") (c .before .same4 .ensures) (c .if4 .taken),
     )
 
-prefix-word-requires : tie.Need-prefix-word-requires
-prefix-word-requires c κs = search needs
+choice-word-requires : tie.Need-choice-word-requires
+choice-word-requires c κs = search needs
 
 returns-5 : tie.Need-returns-5
 unfolding tableWord
@@ -83,7 +83,7 @@ returns-5 c =
       same-list-is _ (bytes "lookup") (second .before .same2 .ensures) (second .if2 .left),
       same-list-is _ (bytes "audit") (third .before .same3 .ensures) (third .if3 .left),
       same-list-is _ (bytes "report") (fourth .before .same4 .ensures) (fourth .if4 .left),
-    ) (c .prefix-word .ensures)
+    ) (c .choice-word .ensures)
 
 pub table-word-spec : {M : Type 1} → statement M
 table-word-spec =
@@ -101,5 +101,5 @@ table-word-spec =
     slice-aggregate-same-4
     same-requires-4
     returns-4
-    prefix-word-requires
+    choice-word-requires
     returns-5)

@@ -13,29 +13,29 @@ rules-in-requires c κs = search needs
 array-borrow-prefix-run : tie.Need-array-borrow-prefix-run
 array-borrow-prefix-run c = room-few (c .before .before .before .pre) (c .rules-in .ensures)
 
-slice-aggregate-choose : tie.Need-slice-aggregate-choose
-slice-aggregate-choose c = room-long mostRules _ (room-few (c .before .before .before .before .pre) (c .before .rules-in .ensures))
+slice-aggregate-first-fit : tie.Need-slice-aggregate-first-fit
+slice-aggregate-first-fit c = room-long mostRules _ (room-few (c .before .before .before .before .pre) (c .before .rules-in .ensures))
 
-choose-requires : tie.Need-choose-requires
-choose-requires c κs = room-run (c .before .before .before .before .pre) (c .before .rules-in .ensures)
+first-fit-requires : tie.Need-first-fit-requires
+first-fit-requires c κs = room-run (c .before .before .before .before .pre) (c .before .rules-in .ensures)
 
 array-share-prefix-run : tie.Need-array-share-prefix-run
 array-share-prefix-run c =
     let chosen = c .before in
     let n = chosen .before .before in
-    chosen-fits (n .before .before .before .pre) (n .rules-in .ensures) (chosen .choose .ensures) _
+    chosen-fits (n .before .before .before .pre) (n .rules-in .ensures) (chosen .first-fit .ensures) _
 
-slice-aggregate-lay-out : tie.Need-slice-aggregate-lay-out
-slice-aggregate-lay-out c =
+slice-aggregate-write-laid : tie.Need-slice-aggregate-write-laid
+slice-aggregate-write-laid c =
     let chosen = c .before .before in
     let n = chosen .before .before in
-    chosen-count (n .before .before .before .pre) (n .rules-in .ensures) (chosen .choose .ensures) _
+    chosen-count (n .before .before .before .pre) (n .rules-in .ensures) (chosen .first-fit .ensures) _
 
-lay-out-requires : tie.Need-lay-out-requires
-lay-out-requires c κs =
+write-laid-requires : tie.Need-write-laid-requires
+write-laid-requires c κs =
     let chosen = c .before .before .before in
     let n = chosen .before .before in
-    chosen-laying (n .before .before .before .pre) (n .rules-in .ensures) (chosen .choose .ensures) _
+    chosen-laying (n .before .before .before .pre) (n .rules-in .ensures) (chosen .first-fit .ensures) _
 
 cast-result : tie.Need-cast-result
 cast-result c = search needs
@@ -48,7 +48,7 @@ returns c =
     let laid = c .before .before in
     let chosen = laid .before .before .before .before in
     let n = chosen .before .before in
-    (chosen-parts (n .before .before .before .pre) (n .rules-in .ensures) (chosen .choose .ensures) _ (laid .lay-out .ensures .0), chosen-written (n .before .before .before .pre) (n .rules-in .ensures) (chosen .choose .ensures) _ (laid .lay-out .ensures .1))
+    (chosen-parts (n .before .before .before .pre) (n .rules-in .ensures) (chosen .first-fit .ensures) _ (laid .write-laid .ensures .0), chosen-written (n .before .before .before .pre) (n .rules-in .ensures) (chosen .first-fit .ensures) _ (laid .write-laid .ensures .1))
 
 pub write-built-spec : {M : Type 1} → statement M
 write-built-spec =
@@ -56,11 +56,11 @@ write-built-spec =
     (tie.spec
     rules-in-requires
     array-borrow-prefix-run
-    slice-aggregate-choose
-    choose-requires
+    slice-aggregate-first-fit
+    first-fit-requires
     array-share-prefix-run
-    slice-aggregate-lay-out
-    lay-out-requires
+    slice-aggregate-write-laid
+    write-laid-requires
     cast-result
     same-length
     returns)

@@ -1,104 +1,37 @@
--- `sorting::choose::choose` meets its contract. At the loop's head the first i rules have first fit's numbers (`Choosing`); the measure is what is left of n.
+-- `sorting::choose::choose` meets its contract: a refusal leaves the run as lent, and else each rule's number is written.
 -- Assumes nothing.
-use Prim.Native.Nat.{_-_}
-use mathlib.Core.Path.{_≡_, sym, _∙_}
-use lib.Seq.{length-take-le}
-use Rattle.lists.specs.Rules.{listed, rulesIn}
-use Rattle.sorting.proofs.Partitions.Choosing.{Choosing, choosing-none, choosing-marks, choosing-more, choosing-numbers, choosing-end}
-use native.Mathlib.Omega.{arith}
 use borrow.Author.Needs.{needs}
+use Rattle.sorting.proofs.Answering.InTurn.{chosen-refused, chosen-fine, chosen-into}
 use Rattle.sorting.proofs.choose.choose.Statement.{statement}
 use Rattle.sorting.proofs.choose.choose.Tie as tie
 
-abbrev Inv-loop : tie.InvT-loop
-Inv-loop shape list run₀ n stamps₀ i₀ run stamps i = (n ≡ rulesIn (listed shape list)) × Choosing (listed shape list) run stamps i
+choose-fault-requires : tie.Need-choose-fault-requires
+choose-fault-requires c κs = search needs
 
-abbrev μ-loop : tie.MeasureT-loop
-μ-loop shape list run₀ n stamps₀ i₀ run stamps i = n - i
+same-length : tie.Need-same-length
+same-length c = search needs
 
-cast-n : tie.Need-cast-n Inv-loop μ-loop
-cast-n c = search needs
+-- refused
+returns : tie.Need-returns
+returns c = chosen-refused _ _ _ (c .before .before .choose-fault .ensures) (c .if1 .taken)
 
-loop-holds : tie.Need-loop-holds Inv-loop μ-loop
-loop-holds c =
-    let a = c .before .before in
-    (a .pre .one-each, choosing-none _ _ (a .pre))
+first-fit-requires : tie.Need-first-fit-requires
+first-fit-requires c κs =
+    let t = c .before in
+    chosen-fine _ _ _ (t .before .before .choose-fault .ensures) (t .if1 .left)
 
-cast-mark : tie.Need-cast-mark Inv-loop μ-loop
-cast-mark c = search needs
+cast-t11 : tie.Need-cast-t11
+cast-t11 c = search needs
 
-slice-reshare-prefix-mark : tie.Need-slice-reshare-prefix-mark Inv-loop μ-loop
-slice-reshare-prefix-mark c = search needs
+same-length-2 : tie.Need-same-length-2
+same-length-2 c = search needs
 
-slice-aggregate-mark : tie.Need-slice-aggregate-mark Inv-loop μ-loop
-slice-aggregate-mark c = sym (length-take-le _ _ (omega arith))
-
-mark-requires : tie.Need-mark-requires Inv-loop μ-loop
-mark-requires c κs =
-    let at-test = c .before .before in
-    let loop = at-test .before in
-    choosing-marks (loop .before .before .before .pre .shape-stands) (loop .loop .inv .1) (omega arith)
-
-first-free-requires : tie.Need-first-free-requires Inv-loop μ-loop
-first-free-requires c κs = omega arith
-
-cast-run : tie.Need-cast-run Inv-loop μ-loop
-cast-run c = search needs
-
-mul-run : tie.Need-mul-run Inv-loop μ-loop
-mul-run c = search needs
-
-slice-write-run : tie.Need-slice-write-run Inv-loop μ-loop
-slice-write-run c = search needs
-
-add-i : tie.Need-add-i Inv-loop μ-loop
-add-i c = search needs
-
-loop-less : tie.Need-loop-less Inv-loop μ-loop
-loop-less c = omega arith
-
-loop-again : tie.Need-loop-again Inv-loop μ-loop
-loop-again c =
-    let marked = c .before .before in
-    let at-test = marked .before .before .before in
-    let loop = at-test .before in
-    let a = loop .before .before .before in
-    (a .pre .one-each, choosing-more (a .pre .shape-stands) (loop .loop .inv .1) (omega arith) (marked .mark .ensures) (c .first-free .ensures))
-
-parts-in-requires : tie.Need-parts-in-requires Inv-loop μ-loop
-parts-in-requires c κs =
-    let loop = c .before .before in
-    choosing-numbers (loop .loop .inv .1) (omega arith) (loop .before .before .before .pre .shape-stands)
-
-same-length : tie.Need-same-length Inv-loop μ-loop
-same-length c =
-    let loop = c .before .before .before in
-    loop .loop .inv .1 .one-each ∙ sym (loop .before .before .before .pre .one-each)
-
-returns : tie.Need-returns Inv-loop μ-loop
-returns c =
-    let loop = c .before .before .before in
-    choosing-end (loop .loop .inv .1) (omega arith) (c .parts-in .ensures)
+-- written
+returns-2 : tie.Need-returns-2
+returns-2 c =
+    let written = c .before .before in
+    let t = written .before .before in
+    chosen-into _ _ _ (t .before .before .choose-fault .ensures) (t .if1 .left) (written .first-fit .ensures)
 
 pub choose-spec : {M : Type 1} → statement M
-choose-spec =
-    tie.close
-    (tie.spec
-    Inv-loop
-    μ-loop
-    cast-n
-    loop-holds
-    cast-mark
-    slice-reshare-prefix-mark
-    slice-aggregate-mark
-    mark-requires
-    first-free-requires
-    cast-run
-    mul-run
-    slice-write-run
-    add-i
-    loop-less
-    loop-again
-    parts-in-requires
-    same-length
-    returns)
+choose-spec = tie.close (tie.spec choose-fault-requires same-length returns first-fit-requires cast-t11 same-length-2 returns-2)
