@@ -3,6 +3,7 @@
 # proved, machine_named, code_named and load_named.
 # With BENCH_ALWAYS=1 in the environment what has the same code is timed too, and nothing is written: this tests the bench itself.
 
+# What can be timed: functions of both archives. What one of them alone has, as cuy_choose and cuy_lay_out, is told and not timed.
 compared=(lookup build plain_scan check audit independence report range_to_prefixes)
 heading='## Against the commit before'
 how='copy target/staticlib/libinterface.a aside at the commit before, once `rt staticlib interface` has written it'

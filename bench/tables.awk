@@ -8,7 +8,9 @@
 #                                                                                 range_to_prefixes RANGES WIDTH PREFIXES in the place of n d b
 #   dates FUNCTION CHARACTER n d b RATIO NONE                                     the same, of all dates over none; not beside lines of the
 #                                                                                 commit before
+#   choices FUNCTION CHARACTER n d b RATIO BUILD ITSELF                           the same, over the build, or over the audit for its parts
 function ratio(a, b) { return b == "-" || b == "" ? "-" : a / b >= 100 ? grouped(a / b) : sprintf(a / b < 0.095 ? "%.3f" : "%.2f", a / b) }
+function fine(x) { return sprintf(x < 0.0095 ? "%.4f" : x < 0.095 ? "%.3f" : "%.2f", x) }
 function per_second(ns) { return ns == "-" || ns == "" ? "-" : sprintf(1000 / ns < 1 ? "%.3f" : "%.2f", 1000 / ns) }
 function micro(ns) { return sprintf(ns < 1e5 ? "%.1f" : "%.0f", ns / 1000) }
 function nano(ns) { return sprintf(ns < 100 ? "%.1f" : "%.0f", ns) }
@@ -23,10 +25,11 @@ $1 == "prefixes" { ranges[++ng] = $0 }
 $1 == "gateway" { gateway = $0 }
 $1 == "code" { code[$2] = $3; codes[++nc] = $2 }
 $1 == "dates" { dated = 1 }
-$1 == "before" || $1 == "dates" {
+$1 == "choices" { chosen = 1 }
+$1 == "before" || $1 == "dates" || $1 == "choices" {
     row = $2 " " $3 " " $4 " " $5 " " $6
     if (!(row in turns)) { rows[++nr] = row; low[row] = $7 }
-    turns[row]++; ratios[row] += $7; earlier[row] += $8
+    turns[row]++; ratios[row] += $7; earlier[row] += $8; itself[row] += $9
     if ($7 < low[row]) low[row] = $7
     if ($7 > high[row]) high[row] = $7
 }
@@ -69,7 +72,7 @@ function placed_name(w) {
     return w[1] == "range_to_prefixes" ? sprintf("`%s_%d_bits`", w[1], w[4]) : sprintf("`%s_%d_rules_%d_fields`", w[1], w[3], w[4])
 }
 # The mean over the placements, with its least and its most, and the time of what it is held against.
-function placed_figures(row) { return sprintf("**%.2f** | %.2f | %.2f | %s", ratios[row] / turns[row], low[row], high[row], timed(earlier[row] / turns[row])) }
+function placed_figures(row) { return sprintf("**%s** | %s | %s | %s", fine(ratios[row] / turns[row]), fine(low[row]), fine(high[row]), timed(earlier[row] / turns[row])) }
 
 # Prints the rows that are of ranges (1) or of lists (0), in the order asked for, if there are any: one thing over another.
 function placed_table(columns, of_ranges, one, other,    i, k, w, head) {
@@ -93,9 +96,59 @@ function aim(name, words, limit, character, from, to,    k, w, most, where) {
             where = placed_name(w) ", " spoken(w[2])
         }
     }
-    printf "- Aim: %s at most %.2f. ", words, limit
+    printf "- Aim: %s at most " (limit < 0.1 ? "%.3f" : "%.2f") ". ", words, limit
     if (most == "") print "It holds: same code."
-    else printf "It **%s**: the greatest is %.3f (%s).\n", most <= limit ? "holds" : "does not hold", most, where
+    else printf "It **%s**: the greatest is " (most < 0.1 ? "%.4f" : "%.3f") " (%s).\n", most <= limit ? "holds" : "does not hold", most, where
+}
+
+# Prints what a function takes over the build, on each list on which lay_out was timed too, and the times of these functions.
+function choice_table(name, functions,    i, k, m, w, of) {
+    m = split(functions, of, " ")
+    printf "| bench | list | partitions | over build | least | most | build |"
+    for (i = 1; i <= m; i++) printf " %s |%s", of[i], i < m ? "" : "\n|---|---|--:|--:|--:|--:|--:|"
+    for (i = 1; i <= m; i++) printf "--:|%s", i < m ? "" : "\n"
+    for (k = 1; k <= nr; k++) {
+        split(rows[k], w, " ")
+        if (w[1] != name || !(("lay_out" common(rows[k])) in turns)) continue
+        printf "| %s | %s | %s | %s |", placed_name(w), spoken(w[2]), grouped(w[5]), placed_figures(rows[k])
+        for (i = 1; i <= m; i++) printf " %s |%s", timed(takes(of[i] common(rows[k]))), i < m ? "" : "\n"
+    }
+    print ""
+}
+# What the rows of one list have in common, and the time of a row's function itself.
+function common(row) { return substr(row, index(row, " ")) }
+function takes(row) { return itself[row] / turns[row] }
+
+# Prints what an audit of each kind of list takes at four sizes, and whether it grows as n does.
+function growth_table(    i, k, w, kinds, count, fields, most, where, grown) {
+    for (k = 1; k <= nr; k++) {
+        split(rows[k], w, " ")
+        if (w[1] != "audit") continue
+        if (!(w[2] in fields)) { kinds[++count] = w[2]; fields[w[2]] = w[4] }
+        audits[w[2], w[3]] = takes(rows[k])
+        built[w[2], w[3]] = earlier[rows[k]] / turns[rows[k]]
+    }
+    print "What an audit takes as n grows. With n it would take 8 times as long for 1,024 rules as for 128, with n squared 64 times:\n"
+    print "| list | fields | 128 rules | 256 rules | 512 rules | 1,024 rules | audit, 1,024 over 128 | build, 1,024 over 128 |"
+    print "|---|--:|--:|--:|--:|--:|--:|--:|"
+    for (i = 1; i <= count; i++) {
+        k = kinds[i]
+        grown = audits[k, 1024] / audits[k, 128]
+        if (grown > most) { most = grown; where = spoken(k) }
+        printf "| %s | %d | %s | %s | %s | %s | **%.1f** | %.1f |\n", spoken(k), fields[k], timed(audits[k, 128]), timed(audits[k, 256]), timed(audits[k, 512]), timed(audits[k, 1024]), grown, built[k, 1024] / built[k, 128]
+    }
+    printf "\n- Aim: audit of 1,024 rules over that of 128 at most 16. It **%s**: the greatest is %.1f (%s).\n", most <= 16 ? "holds" : "does not hold", most, where
+}
+# Says where the time of an audit goes, by audits of the same list that say no on the way; `whole` is what it took among these.
+function audit_parts(row,    list, whole, refusals, starts, order) {
+    list = common(row)
+    whole = earlier["until_n" list] / turns["until_n" list]
+    refusals = takes("until_n" list)
+    starts = takes("until_last_start" list)
+    order = takes("until_last_rule" list)
+    printf "Where an audit's time goes, on the access list of 1,024 rules: of %s the refusals 1 to 5 take %s (`cuy_check` by itself %s), n, d, b and the\n", timed(whole), timed(refusals), timed(takes("check" list))
+    printf "starts %s, the order %s, and neighbours and their runs %s. This was measured by audits of tables with one number altered, which say no when they come\n", timed(starts - refusals), timed(order - starts), timed(whole - order)
+    print "to it: n, the last start, the last rule of the order.\n"
 }
 
 END {
@@ -107,9 +160,10 @@ END {
         m = split(asked, names, " ")
         placed_table("list | partitions", 0, "new", "before")
         placed_table("ranges | prefixes a range", 1, "new", "before")
-        aim("lookup", "lookup without dates (n ≥ 128)", 1.10, "", 128)
-        aim("lookup", "lookup without dates (n = 16)", 1.10, "", 16, 16)
-        aim("build", "build without dates", 1.10)
+        aim("lookup", "lookup (n ≥ 128)", 1.10, "", 128)
+        aim("lookup", "lookup (n = 16)", 1.10, "", 16, 16)
+        aim("build", "build of the access list of 1,024 rules", 1.05, "access_list", 1024)
+        aim("build", "build of each", 1.10)
         aim("range_to_prefixes", "range_to_prefixes of 1 to 4294967294", 0.30, "1_to_4294967294")
         aim("range_to_prefixes", "range_to_prefixes of each", 1.05)
     }
@@ -124,6 +178,25 @@ END {
             split(builds[k], w, " ")
             printf "| `build_%d_rules_%d_fields` | %s | %d | **%s** | %s | %s | %s | %s | %s |\n", w[3], w[4], spoken(w[2]), w[5], ratio(w[6], w[7]), ratio(w[6], w[8]), ratio(w[6], plain_1024), micro(w[6]), micro(w[7]), micro(w[8])
         }
+        print ""
+    }
+    if (chosen) {
+        print "## Choices\n"
+        print "Time of the proved `cuy_audit` over that of `cuy_build`, and that of `cuy_choose` and `cuy_lay_out` in turn, which write the same table. All take turns"
+        print "of at least 2 ms of processor time, 31 each; a ratio is the median over the rounds. The program is linked four times, with 16, 32, 48 and 64 bytes"
+        print "between a page's start and the proved code; *over build* is the mean of the four ratios, least and most stand beside it, and a time is the mean of the"
+        print "four best turns. The lists are those of the build above. The tables are compared first, and a choice that is not first fit's, with its partitions in the"
+        print "opposite order, is laid out, audited and looked up in.\n"
+        choice_table("audit", "audit")
+        choice_table("choose_lay_out", "choose lay_out")
+        asked = "audit choose_lay_out"
+        aim("audit", "audit of the access list of 1,024 rules over its build", 0.007, "access_list", 1024)
+        for (k = 1; k <= nr; k++) if (rows[k] ~ /^audit access_list 1024 /) audited = rows[k]
+        printf "- Aim: audit of the access list of 1,024 rules at most 20 µs. It **%s**: it takes %s.\n", takes(audited) <= 20000 ? "holds" : "does not hold", timed(takes(audited))
+        aim("choose_lay_out", "choose and lay_out in turn over the build of the access list of 1,024 rules", 1.5, "access_list", 1024)
+        print ""
+        audit_parts(audited)
+        growth_table()
         print ""
     }
     if (nl) {
@@ -155,7 +228,7 @@ END {
         print "each high of the dates is one more. 4294967295 lies in no range of dates, so where it is drawn both lists have one less. Both sides take turns of at"
         print "least 2 ms of processor time, 31 each; their ratio is the median over the pairs of turns. The program is linked four times, with 16, 32, 48 and 64"
         print "bytes between a page's start and the proved code; *all dates over none* is the mean of the four ratios, least and most stand beside it. Each side"
-        print "looks up in the table that it built itself; every table, and every answer of the seven functions that are given a list, is compared first.\n"
+        print "looks up in the table that it built itself; every table, and every answer of the functions that are given a list, is compared first.\n"
         asked = "lookup build"
         m = split(asked, names, " ")
         placed_table("list | partitions", 0, "all dates", "none")

@@ -12,6 +12,15 @@
  * match is the smallest rule number that fits. A table is a run of 16-bit numbers, exactly CUY_TABLE_LENGTH(n, d) long. A
  * list has at most CUY_MAX_LIST numbers, and a table CUY_MAX_TABLE.
  *
+ * Partitions
+ *
+ * A table holds the rules in partitions, which a lookup searches one by one. Two rules clash when, in the first field in
+ * which their ranges differ, some number lies in both ranges; rules whose ranges differ in no field clash too. A choice of
+ * partitions is a run of 16-bit numbers, one a rule: the number of its partition. The numbers used are 0 to b - 1, each for
+ * one rule or more, and no two rules of one partition clash. cuy_choose writes that of first fit: rules are taken in the
+ * order of their numbers, and each goes to the lowest partition in which it clashes with no rule so far, or else opens the
+ * next. cuy_lay_out writes the table of any choice, and cuy_build is the two in turn.
+ *
  * Dates
  *
  * The flags `dates`, given with each list, say which fields are dates: bit f is set where field f is one, so 1 says field 0,
@@ -21,7 +30,7 @@
  * ends of a range are the first and the last number in it: low, and high - 1 in a date or high in any other field. Prefixes
  * know no dates.
  *
- * The flags belong to the list, as d does, and a table to the list and the flags that it was built for. What a lookup with
+ * The flags belong to the list, as d does, and a table to the list and the flags that it was written for. What a lookup with
  * other flags gives is said at cuy_lookup.
  *
  * What comes back
@@ -43,9 +52,11 @@
  * nothing else writes to any of them while the call runs. Nothing more: the numbers may be any.
  *
  * The functions keep nothing between calls and allocate nothing, so several threads may call them at once, also on the same
- * list and table, as long as none of these calls writes to what another reads: each thread has an answer of its own, and
- * cuy_build runs by itself. cuy_audit takes some 41 KB of stack, the others less than 8 KB (measured, not proved). The
- * archive wants memcpy and memset of the C library, and nothing else.
+ * list and table, as long as none of these calls writes to what another reads or writes: each thread has an answer of its
+ * own, and nobody else uses the run or table that cuy_choose, cuy_lay_out, cuy_build or cuy_range_to_prefixes is writing. No
+ * function takes more than 5 KB of stack. The time of an audit grows with the table's length, that of a build with the
+ * square of n (stack and times are measured, not proved). The archive wants memcpy and memset of the C library, and nothing
+ * else.
  */
 #ifndef CUYENALOT_H
 #define CUYENALOT_H
@@ -59,8 +70,10 @@ extern "C" {
 
 /* The version of this header; cuy_version() gives that of the archive. Raised whenever an answer's numbers or a function's
  * parameters change: where the two differ, header and archive do not belong together.
- * Version 3 has the parameter `dates` after d in the seven functions that are given a list. Callers of an older version must
- * be altered, by 0 there for a list without dates, and compiled anew: no linker notices that a parameter is missing. */
+ * Version 3 has the parameter `dates` after d in the functions that are given a list. Callers of an older version must be
+ * altered, by 0 there for a list without dates, and compiled anew: no linker notices that a parameter is missing.
+ * cuy_choose and cuy_lay_out came to version 3 later: an archive that lacks them does not link with a program that calls
+ * them, and its cuy_audit answers 1 for the table of cuy_build alone. */
 #define CUY_VERSION 3
 
 /* The limits: fields of a rule, rules of a list, numbers of the longest list and of the longest table. */
@@ -71,7 +84,7 @@ extern "C" {
 
 /* The refusals: name, number, and what is wrong. The place is 0, 0 but for 4, which is at the smallest such rule number, then
  * its smallest such field; and for 12, which is at how many places are needed. No function here gives 8: it is the program's
- * alone. */
+ * alone. 13 and 14 are no refusals. */
 #define CUY_REFUSALS(X) \
     X(CUY_BAD_FIELDS, 1, "d is not 1 to 8") \
     X(CUY_BAD_LENGTH, 2, "the list's length is no multiple of 2d") \
@@ -84,7 +97,11 @@ extern "C" {
     X(CUY_BAD_WIDTH, 9, "the width is not 1 to 32") \
     X(CUY_BAD_PREFIX, 10, "the prefix is longer than the width, its value needs more bits, or a bit below it is set") \
     X(CUY_BAD_RANGE, 11, "low is above high, or high needs more bits than the width") \
-    X(CUY_TOO_LITTLE_ROOM, 12, "fewer places lent than prefixes to write")
+    X(CUY_TOO_LITTLE_ROOM, 12, "fewer places lent than prefixes to write") \
+    X(CUY_BAD_RUN_LENGTH, 15, "the run of partition numbers is not n long, one a rule") \
+    X(CUY_BAD_PARTITION_NUMBER, 16, "some partition number of the run is not below n") \
+    X(CUY_EMPTY_PARTITION, 17, "some number below the run's largest partition number has no rule") \
+    X(CUY_CLASH_IN_PARTITION, 18, "two rules of one partition clash")
 
 enum cuy_refusal {
     CUY_NO_REFUSAL = 0
@@ -131,25 +148,39 @@ uint32_t cuy_plain_scan(size_t d, uint32_t dates, const uint32_t *list, size_t l
  * Refuses with 1, 2, 3, 4. */
 uint32_t cuy_independence(size_t d, uint32_t dates, const uint32_t *list, size_t list_length, uint64_t answer[6]);
 
-/* Builds the table of a list and its flags: writes every number of it. Answers b, the number of its partitions, in answer[3].
+/* Chooses the partitions of a list and its flags by first fit: writes each rule's partition number into the run, which is n
+ * long. Answers b, the number of partitions, in answer[3].
+ * Refuses with 1, 2, 3, 4, 15. */
+uint32_t cuy_choose(size_t d, uint32_t dates, const uint32_t *list, size_t list_length, uint16_t *run, size_t run_length,
+                    uint64_t answer[4]);
+
+/* Lays out the table of a list, its flags and a choice of partitions, which is cuy_choose's or the caller's own and n long:
+ * writes every number of it. Answers b, the number of its partitions, in answer[3].
+ * Refuses with 1, 2, 3, 4, 5, 15, 16, 17, 18, each tested over all rules before the next. */
+uint32_t cuy_lay_out(size_t d, uint32_t dates, const uint32_t *list, size_t list_length, const uint16_t *run,
+                     size_t run_length, uint16_t *table, size_t table_length, uint64_t answer[4]);
+
+/* Builds the table of a list and its flags: writes every number of it, as cuy_lay_out does for the run of cuy_choose. Answers
+ * b, the number of its partitions, in answer[3].
  * Refuses with 1, 2, 3, 4, 5. */
 uint32_t cuy_build(size_t d, uint32_t dates, const uint32_t *list, size_t list_length, uint16_t *table,
                    size_t table_length, uint64_t answer[4]);
 
 /* Looks a header up in a table. Answers 1 in answer[3] and a rule number in answer[4], or 0 in both where no rule fits; in
  * answer[5] the number of range tests; and in answer[6] 1 where that rule is at an edge, which means that in one of the d
- * fields or more the header's number is an end of its range, else 0, also where no rule fits. In a table that cuy_build wrote
- * for this list and these flags the rule is the first match, and nothing is refused. In any other table, and so in one that
- * was built with other flags for the d fields, a rule that is answered still fits the header, by the flags of this call, and
- * the edge is its own; but a rule that fits may be passed by, and the table may be refused with 6.
+ * fields or more the header's number is an end of its range, else 0, also where no rule fits. In a table that cuy_build or
+ * cuy_lay_out wrote for this list and these flags, and so in each of which cuy_audit says 1, the rule is the first match, and
+ * nothing is refused. In any other table, as one written with other flags for the d fields may be, a rule that is answered
+ * still fits the header, by the flags of this call, and the edge is its own; but a rule that fits may be passed by, and the
+ * table may be refused with 6.
  * Refuses with 1, 2, 3, 5, 6; never with 4, since it does not read the whole list.
  * In version 1 the answer had six numbers: who still lends six is written past. */
 uint32_t cuy_lookup(size_t d, uint32_t dates, const uint32_t *list, size_t list_length, const uint16_t *table,
                     size_t table_length, const uint32_t header[8], uint64_t answer[7]);
 
-/* Audits a table. Answers 1 in answer[3] exactly when every number of the table is what cuy_build would write for this
- * list and these flags, else 0.
- * Refuses with 1, 2, 3, 4, 5. */
+/* Audits a table. Answers 1 in answer[3] exactly when there is a choice of partitions for which cuy_lay_out would write every
+ * number of the table as it is, for this list and these flags, else 0: so 1 for what cuy_build or cuy_lay_out wrote for them.
+ * Refuses with 1, 2, 3, 4, 5; never with 6, since a broken table is answered with 0. */
 uint32_t cuy_audit(size_t d, uint32_t dates, const uint32_t *list, size_t list_length, const uint16_t *table,
                    size_t table_length, uint64_t answer[4]);
 

@@ -9,15 +9,17 @@
 #include <string.h>
 
 enum { HEADERS = 2048, LONGEST = CUY_MAX_TABLE, MOST_ANSWERED = 7 };
-// check, independence, build and audit, a report on each partition, a scan and a lookup of each header and of each rule's due day
-enum { MOST_ASKED = 4 + MOST_RULES + 2 * HEADERS + 2 * MOST_RULES };
+// what is asked once a list; then a report on each partition, a scan and a lookup of each header and of each rule's due day
+enum { CHECK, INDEPENDENCE, BUILD, CHOOSE, LAY_OUT, AUDIT, ASKED_ONCE };
+enum { MOST_ASKED = ASKED_ONCE + MOST_RULES + 2 * HEADERS + 2 * MOST_RULES };
 
-// A side: its flags, its list, its table, and what it answers.
+// A side: its flags, its list, its table, its choice of partitions with the table of that, and what it answers.
 enum { NONE, ALL };
 static struct side {
     uint32_t dates;
     struct list list;
     _Alignas(4096) uint16_t table[LONGEST];
+    uint16_t run[MOST_RULES], laid[LONGEST];
     uint64_t answers[MOST_ASKED][MOST_ANSWERED];
 } sides[] = {[NONE] = {.dates = 0}, [ALL] = {.dates = 255}};
 static size_t length, table_length;
@@ -58,15 +60,18 @@ static size_t find(struct side *s, const uint32_t *header, size_t m) {
 
 // Asks a side all there is to ask; gives how many answers it gave.
 static size_t ask_all(struct side *s) {
-    size_t m = 4, d = s->list.d;
+    size_t m = ASKED_ONCE, d = s->list.d;
     const uint32_t *list = s->list.numbers;
     memset(s->table, 255, sizeof s->table);
+    memset(s->laid, 255, sizeof s->laid);
     memset(s->answers, 0, sizeof s->answers);
-    cuy_check(d, s->dates, list, length, s->answers[0]);
-    cuy_independence(d, s->dates, list, length, s->answers[1]);
-    cuy_build(d, s->dates, list, length, s->table, table_length, s->answers[2]);
-    cuy_audit(d, s->dates, list, length, s->table, table_length, s->answers[3]);
-    for (size_t q = 0; q < s->answers[2][3]; q++) cuy_report(d, s->dates, list, length, s->table, table_length, q, s->answers[m++]);
+    cuy_check(d, s->dates, list, length, s->answers[CHECK]);
+    cuy_independence(d, s->dates, list, length, s->answers[INDEPENDENCE]);
+    cuy_build(d, s->dates, list, length, s->table, table_length, s->answers[BUILD]);
+    cuy_choose(d, s->dates, list, length, s->run, s->list.n, s->answers[CHOOSE]);
+    cuy_lay_out(d, s->dates, list, length, s->run, s->list.n, s->laid, table_length, s->answers[LAY_OUT]);
+    cuy_audit(d, s->dates, list, length, s->table, table_length, s->answers[AUDIT]);
+    for (size_t q = 0; q < s->answers[BUILD][3]; q++) cuy_report(d, s->dates, list, length, s->table, table_length, q, s->answers[m++]);
     for (size_t i = 0; i < HEADERS; i++) m = find(s, headers[i], m);
     for (size_t i = 0; i < s->list.n; i++) {
         // the lows of rule i, but in one field the first number past its range, which is the due day of a date
@@ -81,13 +86,14 @@ static size_t ask_all(struct side *s) {
 // Stops where a side refuses, where the two do not answer alike or write different tables, or where a lookup is not the scan's; gives b.
 static size_t compare(const char *character) {
     const struct side *none = &sides[NONE], *all = &sides[ALL];
-    size_t m = ask_all(&sides[NONE]), b = none->answers[2][3];
+    size_t m = ask_all(&sides[NONE]), b = none->answers[BUILD][3];
     if (ask_all(&sides[ALL]) != m || memcmp(none->answers, all->answers, sizeof none->answers) != 0) fail("the two sides answer differently", character);
     if (memcmp(none->table, all->table, sizeof none->table) != 0) fail("the two sides write different tables", character);
     for (size_t k = 0; k < m; k++)
         if (none->answers[k][0] != 0) fail("a sound list or table is refused", character);
-    if (none->answers[3][3] != 1) fail("audit says no to what was built", character);
-    for (size_t k = 4 + b; k < m; k += 2)
+    if (memcmp(none->table, none->laid, sizeof none->table) != 0 || memcmp(all->table, all->laid, sizeof all->table) != 0) fail("choose and lay_out in turn are not the build", character);
+    if (none->answers[AUDIT][3] != 1) fail("audit says no to what was built", character);
+    for (size_t k = ASKED_ONCE + b; k < m; k += 2)
         if (none->answers[k][3] != none->answers[k + 1][3] || none->answers[k][4] != none->answers[k + 1][4]) fail("a lookup is not the first match", character);
     return b;
 }

@@ -15,7 +15,7 @@ struct lent {
     uint16_t *table;
 };
 
-// The functions of a side, called in the same way on both.
+// The functions of a side, called in the same way on both. Those that the side before lacks, cuy_choose and cuy_lay_out, are not among them.
 struct side {
     size_t (*table_length)(size_t n, size_t d);
     uint32_t (*check)(const struct lent *l, uint64_t *answer);
@@ -29,29 +29,31 @@ struct side {
 };
 
 // The side before, of this version. Where the header has changed, the line below says what the signature was.
-enum { BEFORE_VERSION = 2 };
+enum { BEFORE_VERSION = 3 };
 extern __typeof__(cuy_version) before_cuy_version;
-extern uint32_t before_cuy_check(size_t d, const uint32_t *list, size_t list_length, uint64_t *answer);
-extern uint32_t before_cuy_plain_scan(size_t d, const uint32_t *list, size_t list_length, const uint32_t *header, uint64_t *answer);
-extern uint32_t before_cuy_independence(size_t d, const uint32_t *list, size_t list_length, uint64_t *answer);
-extern uint32_t before_cuy_build(size_t d, const uint32_t *list, size_t list_length, uint16_t *table, size_t table_length, uint64_t *answer);
-extern uint32_t before_cuy_lookup(size_t d, const uint32_t *list, size_t list_length, const uint16_t *table, size_t table_length, const uint32_t *header, uint64_t *answer);
-extern uint32_t before_cuy_audit(size_t d, const uint32_t *list, size_t list_length, const uint16_t *table, size_t table_length, uint64_t *answer);
-extern uint32_t before_cuy_report(size_t d, const uint32_t *list, size_t list_length, const uint16_t *table, size_t table_length, size_t partition, uint64_t *answer);
+extern __typeof__(cuy_check) before_cuy_check;
+extern __typeof__(cuy_plain_scan) before_cuy_plain_scan;
+extern __typeof__(cuy_independence) before_cuy_independence;
+extern __typeof__(cuy_build) before_cuy_build;
+extern __typeof__(cuy_lookup) before_cuy_lookup;
+extern __typeof__(cuy_audit) before_cuy_audit;
+extern __typeof__(cuy_report) before_cuy_report;
 extern __typeof__(cuy_range_to_prefixes) before_cuy_range_to_prefixes;
 
+// No field is a date, on either side.
+enum { NO_DATES = 0 };
+
 static size_t before_table_length(size_t n, size_t d) { return 4 + 2 * n + 2 * n * d; }
-static uint32_t before_check(const struct lent *l, uint64_t *a) { return before_cuy_check(l->d, l->list, l->length, a); }
-static uint32_t before_plain_scan(const struct lent *l, const uint32_t *h, uint64_t *a) { return before_cuy_plain_scan(l->d, l->list, l->length, h, a); }
-static uint32_t before_independence(const struct lent *l, uint64_t *a) { return before_cuy_independence(l->d, l->list, l->length, a); }
-static uint32_t before_build(const struct lent *l, uint64_t *a) { return before_cuy_build(l->d, l->list, l->length, l->table, l->table_length, a); }
-static uint32_t before_lookup(const struct lent *l, const uint32_t *h, uint64_t *a) { return before_cuy_lookup(l->d, l->list, l->length, l->table, l->table_length, h, a); }
-static uint32_t before_audit(const struct lent *l, uint64_t *a) { return before_cuy_audit(l->d, l->list, l->length, l->table, l->table_length, a); }
-static uint32_t before_report(const struct lent *l, size_t k, uint64_t *a) { return before_cuy_report(l->d, l->list, l->length, l->table, l->table_length, k, a); }
+static uint32_t before_check(const struct lent *l, uint64_t *a) { return before_cuy_check(l->d, NO_DATES, l->list, l->length, a); }
+static uint32_t before_plain_scan(const struct lent *l, const uint32_t *h, uint64_t *a) { return before_cuy_plain_scan(l->d, NO_DATES, l->list, l->length, h, a); }
+static uint32_t before_independence(const struct lent *l, uint64_t *a) { return before_cuy_independence(l->d, NO_DATES, l->list, l->length, a); }
+static uint32_t before_build(const struct lent *l, uint64_t *a) { return before_cuy_build(l->d, NO_DATES, l->list, l->length, l->table, l->table_length, a); }
+static uint32_t before_lookup(const struct lent *l, const uint32_t *h, uint64_t *a) { return before_cuy_lookup(l->d, NO_DATES, l->list, l->length, l->table, l->table_length, h, a); }
+static uint32_t before_audit(const struct lent *l, uint64_t *a) { return before_cuy_audit(l->d, NO_DATES, l->list, l->length, l->table, l->table_length, a); }
+static uint32_t before_report(const struct lent *l, size_t k, uint64_t *a) { return before_cuy_report(l->d, NO_DATES, l->list, l->length, l->table, l->table_length, k, a); }
 static uint32_t before_range_to_prefixes(uint32_t width, struct range r, uint32_t *run, uint64_t *a) { return before_cuy_range_to_prefixes(width, r.low, r.high, run, MOST_NUMBERS, a); }
 
-// The new side, as the header has it. The side before knows no dates, so none is a date here.
-enum { NO_DATES = 0 };
+// The new side, as the header has it.
 static size_t new_table_length(size_t n, size_t d) { return CUY_TABLE_LENGTH(n, d); }
 static uint32_t new_check(const struct lent *l, uint64_t *a) { return cuy_check(l->d, NO_DATES, l->list, l->length, a); }
 static uint32_t new_plain_scan(const struct lent *l, const uint32_t *h, uint64_t *a) { return cuy_plain_scan(l->d, NO_DATES, l->list, l->length, h, a); }

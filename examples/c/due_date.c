@@ -4,6 +4,7 @@
 
 #include <inttypes.h>
 #include <stdio.h>
+#include <string.h>
 
 enum { FIELDS = 1, RULES = 2, NUMBERS = RULES * 2 * FIELDS, TABLE = CUY_TABLE_LENGTH(RULES, FIELDS), DAYS = 7 };
 
@@ -27,11 +28,13 @@ static void say_match(const char *what, const uint64_t *answer) {
 
 /* Builds the table with some flags, asks everything else with others, and prints the answers; gives 0 where nothing is refused. */
 static uint32_t show(const char *what, uint32_t at_build, uint32_t dates) {
-    uint16_t table[TABLE];
-    uint64_t checked[4], pair[6], built[4], audited[4], part[5], scanned[5], found[7];
+    uint16_t table[TABLE], chosen[RULES], laid[TABLE];
+    uint64_t checked[4], pair[6], built[4], choice[4], audited[4], part[5], scanned[5], found[7];
     uint32_t number = cuy_check(FIELDS, dates, list, NUMBERS, checked);
     if (number == 0) number = cuy_independence(FIELDS, dates, list, NUMBERS, pair);
     if (number == 0) number = cuy_build(FIELDS, at_build, list, NUMBERS, table, TABLE, built);
+    if (number == 0) number = cuy_choose(FIELDS, dates, list, NUMBERS, chosen, RULES, choice);
+    if (number == 0) number = cuy_lay_out(FIELDS, dates, list, NUMBERS, chosen, RULES, laid, TABLE, choice);
     if (number == 0) number = cuy_audit(FIELDS, dates, list, NUMBERS, table, TABLE, audited);
     if (number == 0) number = cuy_report(FIELDS, dates, list, NUMBERS, table, TABLE, 0, part);
     if (number != 0) return number;
@@ -40,6 +43,8 @@ static uint32_t show(const char *what, uint32_t at_build, uint32_t dates) {
         printf("no day fits two rules\n");
     else
         printf("a day fits rules %" PRIu64 " and %" PRIu64 "\n", pair[4], pair[5]);
+    printf("choice %" PRIu16 " %" PRIu16 ", laid out %s\n", chosen[0], chosen[1],
+           memcmp(laid, table, sizeof table) == 0 ? "as built" : "otherwise than built");
     printf("partition 0: size %" PRIu64 ", smallest rule %" PRIu64 "\n", part[3], part[4]);
     printf("audit: %s\n", audited[3] == 1 ? "yes" : "no");
     for (int i = 0; i < DAYS; i++) {

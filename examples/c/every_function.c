@@ -57,6 +57,19 @@ static void independence(const char *what, const uint32_t *list, size_t length) 
     say(what, number, answer, 3);
 }
 
+static void choose(const char *what, const uint32_t *list, size_t length, uint16_t *run, size_t run_length) {
+    uint64_t answer[4] = {9, 9, 9, 9};
+    uint32_t number = cuy_choose(FIELDS, NO_DATES, list, length, run, run_length, answer);
+    say(what, number, answer, 1);
+}
+
+static void lay_out(const char *what, const uint32_t *list, size_t length, const uint16_t *run, size_t run_length,
+                    uint16_t *table, size_t table_length) {
+    uint64_t answer[4] = {9, 9, 9, 9};
+    uint32_t number = cuy_lay_out(FIELDS, NO_DATES, list, length, run, run_length, table, table_length, answer);
+    say(what, number, answer, 1);
+}
+
 static void build(const char *what, size_t d, const uint32_t *list, size_t length, uint16_t *table, size_t table_length) {
     uint64_t answer[4] = {9, 9, 9, 9};
     uint32_t number = cuy_build(d, NO_DATES, list, length, table, table_length, answer);
@@ -99,6 +112,12 @@ static void show_table(const uint16_t *table, size_t length) {
     printf("\n");
 }
 
+static void show_choice(const uint16_t *choice, size_t length) {
+    printf("choice:");
+    for (size_t i = 0; i < length; i++) printf(" %" PRIu16, choice[i]);
+    printf("\n");
+}
+
 static void show_run(const uint32_t *run, size_t length) {
     printf("run:");
     for (size_t i = 0; i < length; i++) printf(" %" PRIu32, run[i]);
@@ -116,10 +135,48 @@ static void limits(void) {
     build("build the longest list", CUY_MAX_FIELDS, list, CUY_MAX_LIST, table, CUY_MAX_TABLE);
 }
 
+/* The choice of partitions by first fit, and one that is brought: single serials in partition 0, whole models in 1, and the
+ * rule for all that is left in 2. Both are laid out; the brought one is then audited and searched. */
+static void choices(void) {
+    uint16_t chosen[RULES], table[TABLE], small[4];
+    for (size_t i = 0; i < RULES; i++) chosen[i] = 65535;
+    for (size_t i = 0; i < TABLE; i++) table[i] = 65535;
+    choose("choose with 9-3", crossed, NUMBERS, chosen, RULES);
+    choose("choose one number short", bench, NUMBERS, chosen, RULES - 1);
+    show_choice(chosen, RULES);
+    choose("choose", bench, NUMBERS, chosen, RULES);
+    show_choice(chosen, RULES);
+    lay_out("lay out what was chosen", bench, NUMBERS, chosen, RULES, table, TABLE);
+    show_table(table, TABLE);
+    choose("choose for no rules", bench, 0, small, 0);
+    choose("choose for no rules, one number lent", bench, 0, small, 1);
+    lay_out("lay out no rules", bench, 0, chosen, 0, small, 4);
+    show_table(small, 4);
+
+    const uint16_t brought[RULES] = {0, 0, 1, 1, 2};
+    lay_out("lay out a brought choice", bench, NUMBERS, brought, RULES, table, TABLE);
+    show_table(table, TABLE);
+    audit("audit it", bench, table);
+    lookup("look up 7, 150 in it", table, TABLE, b4);
+    report("report on its partition 1", table, 1);
+
+    /* rule 3 clashes with rules 0 and 1; what is tested first is refused first, and the table stays */
+    uint16_t wrong[RULES] = {0, 0, 0, 0, RULES};
+    lay_out("lay out with 9-3", crossed, NUMBERS, wrong, RULES - 1, table, TABLE - 1);
+    lay_out("lay out one number short", bench, NUMBERS, wrong, RULES - 1, table, TABLE - 1);
+    lay_out("lay out a choice for four rules", bench, NUMBERS, wrong, RULES - 1, table, TABLE);
+    lay_out("lay out 0 0 0 0 5", bench, NUMBERS, wrong, RULES, table, TABLE);
+    wrong[4] = 2;
+    lay_out("lay out 0 0 0 0 2", bench, NUMBERS, wrong, RULES, table, TABLE);
+    wrong[4] = 1;
+    lay_out("lay out 0 0 0 0 1", bench, NUMBERS, wrong, RULES, table, TABLE);
+    show_table(table, TABLE);
+}
+
 int main(void) {
     printf("version %d, archive %" PRIu32 "\n", CUY_VERSION, cuy_version());
     limits();
-    for (uint32_t number = 0; number <= 13; number++) printf("%" PRIu32 ": %s\n", number, cuy_refusal_name(number));
+    for (uint32_t number = 0; number <= 19; number++) printf("%" PRIu32 ": %s\n", number, cuy_refusal_name(number));
 
     check("check the bench list", FIELDS, bench, NUMBERS);
     check("check 9 fields", 9, bench, NUMBERS);
@@ -163,6 +220,8 @@ int main(void) {
     lookup("look up with another last number", table, TABLE, b4);
     table[3] = RULES;
     report("report with a rule too many", table, 0);
+
+    choices();
 
     range("range of (16, 2), width 5", 5, 16, 2);
     range("range of (0, 0), width 32", 32, 0, 0);

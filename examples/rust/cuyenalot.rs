@@ -60,6 +60,10 @@ impl Refusal {
             10 => "the prefix is longer than the width, its value needs more bits, or a bit below it is set",
             11 => "low is above high, or high needs more bits than the width",
             12 => "fewer places lent than prefixes to write",
+            15 => "the run of partition numbers is not n long, one a rule",
+            16 => "some partition number of the run is not below n",
+            17 => "some number below the run's largest partition number has no rule",
+            18 => "two rules of one partition clash",
             0 => "nothing is refused",
             _ => "no refusal has this number",
         }
@@ -109,6 +113,26 @@ mod c {
             list: *const u32,
             list_length: usize,
             answer: &mut [u64; 6],
+        ) -> u32;
+        pub fn cuy_choose(
+            d: usize,
+            dates: u32,
+            list: *const u32,
+            list_length: usize,
+            run: *mut u16,
+            run_length: usize,
+            answer: &mut [u64; 4],
+        ) -> u32;
+        pub fn cuy_lay_out(
+            d: usize,
+            dates: u32,
+            list: *const u32,
+            list_length: usize,
+            run: *const u16,
+            run_length: usize,
+            table: *mut u16,
+            table_length: usize,
+            answer: &mut [u64; 4],
         ) -> u32;
         pub fn cuy_build(
             d: usize,
@@ -198,7 +222,40 @@ pub fn independence(shape: Shape, list: &[u32]) -> Result<Option<(usize, usize)>
     Ok(if answer[3] == 1 { None } else { Some((answer[4] as usize, answer[5] as usize)) })
 }
 
-/// Builds the table of a list: its number of partitions. A refusal leaves the table as lent.
+/// Chooses the partitions of a list by first fit, each rule's number at its place in the run: how many partitions. A refusal
+/// leaves the run as lent.
+pub fn choose(shape: Shape, list: &[u32], run: &mut [u16]) -> Result<usize, Refusal> {
+    let (d, dates) = shape.numbers();
+    let mut answer = [0; 4];
+    let number =
+        unsafe { c::cuy_choose(d, dates, list.as_ptr(), list.len(), run.as_mut_ptr(), run.len(), &mut answer) };
+    told(number, &answer)?;
+    Ok(answer[3] as usize)
+}
+
+/// Lays out the table of a list and a choice of partitions, which is what `choose` wrote or the caller's own: its number of
+/// partitions. A refusal leaves the table as lent.
+pub fn lay_out(shape: Shape, list: &[u32], run: &[u16], table: &mut [u16]) -> Result<usize, Refusal> {
+    let (d, dates) = shape.numbers();
+    let mut answer = [0; 4];
+    let number = unsafe {
+        c::cuy_lay_out(
+            d,
+            dates,
+            list.as_ptr(),
+            list.len(),
+            run.as_ptr(),
+            run.len(),
+            table.as_mut_ptr(),
+            table.len(),
+            &mut answer,
+        )
+    };
+    told(number, &answer)?;
+    Ok(answer[3] as usize)
+}
+
+/// Builds the table of a list, `choose` and `lay_out` in turn: its number of partitions. A refusal leaves the table as lent.
 pub fn build(shape: Shape, list: &[u32], table: &mut [u16]) -> Result<usize, Refusal> {
     let (d, dates) = shape.numbers();
     let mut answer = [0; 4];
@@ -208,8 +265,9 @@ pub fn build(shape: Shape, list: &[u32], table: &mut [u16]) -> Result<usize, Ref
     Ok(answer[3] as usize)
 }
 
-/// Looks a header up in a table: the rule, or none, the range tests, and whether the rule is at an edge. In a table that was
-/// built with other flags a rule that is given still fits, by the flags of this call, and need not be the first match.
+/// Looks a header up in a table: the rule, or none, the range tests, and whether the rule is at an edge. In a table that `audit`
+/// says no to, as one written with other flags may be, a rule that is given still fits, by the flags of this call, and need not
+/// be the first match.
 pub fn lookup(shape: Shape, list: &[u32], table: &[u16], header: &Header) -> Result<Looked, Refusal> {
     let (d, dates) = shape.numbers();
     let mut answer = [0; 7];
@@ -219,7 +277,8 @@ pub fn lookup(shape: Shape, list: &[u32], table: &[u16], header: &Header) -> Res
     Ok(Looked { rule: match_in(&answer), tests: answer[5] as usize, edge: answer[6] == 1 })
 }
 
-/// Audits a table: whether it is, number for number, what a build writes for this list and this shape.
+/// Audits a table: whether it is, number for number, what `lay_out` writes for this list, this shape and some choice of
+/// partitions, as it is where `build` or `lay_out` wrote it for them.
 pub fn audit(shape: Shape, list: &[u32], table: &[u16]) -> Result<bool, Refusal> {
     let (d, dates) = shape.numbers();
     let mut answer = [0; 4];

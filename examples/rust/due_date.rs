@@ -4,7 +4,10 @@
 #[allow(dead_code)]
 mod cuyenalot;
 
-use cuyenalot::{audit, build, check, independence, lookup, plain_scan, report, table_length, Header, Refusal, Shape};
+use cuyenalot::{
+    audit, build, check, choose, independence, lay_out, lookup, plain_scan, report, table_length, Header, Refusal,
+    Shape,
+};
 
 const NO_DATES: Shape = Shape::of(1);
 const DAY: Shape = Shape { d: 1, dates: [true, false, false, false, false, false, false, false] };
@@ -22,19 +25,23 @@ fn said(rule: Option<usize>) -> String {
 
 /// Builds the table with one shape, asks everything else with another, and prints the answers.
 fn show(what: &str, at_build: Shape, shape: Shape) -> Result<(), Refusal> {
-    let mut table = [0; table_length(2, 1)];
+    let (mut table, mut chosen, mut laid) = ([0; table_length(2, 1)], [0; 2], [0; table_length(2, 1)]);
     let rules = check(shape, &LIST)?;
     let pair = independence(shape, &LIST)?;
     let partitions = build(at_build, &LIST, &mut table)?;
-    let as_built = audit(shape, &LIST, &table)?;
+    choose(shape, &LIST, &mut chosen)?;
+    lay_out(shape, &LIST, &chosen, &mut laid)?;
+    let audited = audit(shape, &LIST, &table)?;
     let part = report(shape, &LIST, &table, 0)?;
     println!("{}:\nrules {}, partitions {}", what, rules, partitions);
     match pair {
         None => println!("no day fits two rules"),
         Some((i, j)) => println!("a day fits rules {} and {}", i, j),
     }
+    let as_built = if laid == table { "as built" } else { "otherwise than built" };
+    println!("choice {} {}, laid out {}", chosen[0], chosen[1], as_built);
     println!("partition 0: size {}, smallest rule {}", part.size, part.least);
-    println!("audit: {}", if as_built { "yes" } else { "no" });
+    println!("audit: {}", if audited { "yes" } else { "no" });
     for day in [0, 1, 3, 4, 5, 8, 9] {
         let header: Header = [day, 0, 0, 0, 0, 0, 0, 0];
         let scanned = plain_scan(shape, &LIST, &header)?;

@@ -65,10 +65,42 @@ fn limits() {
     assert_eq!(table_length(usize::MAX, 8), usize::MAX);
 }
 
+/// The choice of partitions by first fit, and one that is brought: single serials in partition 0, whole models in 1, and the
+/// rule for all that is left in 2. Both are laid out; the brought one is then audited and searched.
+fn choices() {
+    let (mut chosen, mut table, mut small) = ([65535; 5], [65535; TABLE], [65535; 4]);
+    say("choose with 9-3", choose(SHAPE, &CROSSED, &mut chosen).map(|b| [b]));
+    say("choose one number short", choose(SHAPE, &BENCH, &mut chosen[..4]).map(|b| [b]));
+    println!("choice:{}", listed(&chosen));
+    say("choose", choose(SHAPE, &BENCH, &mut chosen).map(|b| [b]));
+    println!("choice:{}", listed(&chosen));
+    say("lay out what was chosen", lay_out(SHAPE, &BENCH, &chosen, &mut table).map(|b| [b]));
+    println!("table:{}", listed(&table));
+    say("choose for no rules", choose(SHAPE, &[], &mut []).map(|b| [b]));
+    say("choose for no rules, one number lent", choose(SHAPE, &[], &mut small[..1]).map(|b| [b]));
+    say("lay out no rules", lay_out(SHAPE, &[], &[], &mut small).map(|b| [b]));
+    println!("table:{}", listed(&small));
+
+    say("lay out a brought choice", lay_out(SHAPE, &BENCH, &[0, 0, 1, 1, 2], &mut table).map(|b| [b]));
+    println!("table:{}", listed(&table));
+    say("audit it", audit(SHAPE, &BENCH, &table).map(|laid| [laid as usize]));
+    say("look up 7, 150 in it", lookup(SHAPE, &BENCH, &table, &B4).map(looked));
+    say("report on its partition 1", report(SHAPE, &BENCH, &table, 1).map(|part| [part.size, part.least]));
+
+    // rule 3 clashes with rules 0 and 1; what is tested first is refused first, and the table stays
+    say("lay out with 9-3", lay_out(SHAPE, &CROSSED, &[0; 4], &mut table[..TABLE - 1]).map(|b| [b]));
+    say("lay out one number short", lay_out(SHAPE, &BENCH, &[0; 4], &mut table[..TABLE - 1]).map(|b| [b]));
+    say("lay out a choice for four rules", lay_out(SHAPE, &BENCH, &[0; 4], &mut table).map(|b| [b]));
+    say("lay out 0 0 0 0 5", lay_out(SHAPE, &BENCH, &[0, 0, 0, 0, 5], &mut table).map(|b| [b]));
+    say("lay out 0 0 0 0 2", lay_out(SHAPE, &BENCH, &[0, 0, 0, 0, 2], &mut table).map(|b| [b]));
+    say("lay out 0 0 0 0 1", lay_out(SHAPE, &BENCH, &[0, 0, 0, 0, 1], &mut table).map(|b| [b]));
+    println!("table:{}", listed(&table));
+}
+
 fn main() {
     println!("version {}, archive {}", VERSION, version());
     limits();
-    for number in 0..=13 {
+    for number in 0..=19 {
         println!("{}: {}", number, Refusal { number, at: 0, then: 0 }.name());
     }
 
@@ -101,18 +133,20 @@ fn main() {
     say("look up 5, 5", lookup(SHAPE, &BENCH, &table, &PLAIN).map(looked));
     say("look up one number short", lookup(SHAPE, &BENCH, &table[..TABLE - 1], &B4).map(looked));
 
-    say("audit", audit(SHAPE, &BENCH, &table).map(|same| [same as usize]));
-    say("audit with 9-3", audit(SHAPE, &CROSSED, &table).map(|same| [same as usize]));
+    say("audit", audit(SHAPE, &BENCH, &table).map(|laid| [laid as usize]));
+    say("audit with 9-3", audit(SHAPE, &CROSSED, &table).map(|laid| [laid as usize]));
 
     say("report on partition 0", report(SHAPE, &BENCH, &table, 0).map(|part| [part.size, part.least]));
     say("report on partition 1", report(SHAPE, &BENCH, &table, 1).map(|part| [part.size, part.least]));
     say("report on partition 3", report(SHAPE, &BENCH, &table, 3).map(|part| [part.size, part.least]));
 
     table[TABLE - 1] += 1;
-    say("audit with another last number", audit(SHAPE, &BENCH, &table).map(|same| [same as usize]));
+    say("audit with another last number", audit(SHAPE, &BENCH, &table).map(|laid| [laid as usize]));
     say("look up with another last number", lookup(SHAPE, &BENCH, &table, &B4).map(looked));
     table[3] = 5;
     say("report with a rule too many", report(SHAPE, &BENCH, &table, 0).map(|part| [part.size, part.least]));
+
+    choices();
 
     say("range of (16, 2), width 5", prefix_to_range(5, 16, 2).map(|(low, high)| [low as usize, high as usize]));
     say("range of (0, 0), width 32", prefix_to_range(32, 0, 0).map(|(low, high)| [low as usize, high as usize]));
