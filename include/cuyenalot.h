@@ -54,7 +54,7 @@
  * The functions keep nothing between calls and allocate nothing, so several threads may call them at once, also on the same
  * list and table, as long as none of these calls writes to what another reads or writes: each thread has an answer of its
  * own, and nobody else uses the run or table that cuy_choose, cuy_lay_out, cuy_build or cuy_range_to_prefixes is writing. No
- * function takes more than 5 KB of stack. The time of an audit grows with the table's length, that of a build with the
+ * function takes more than 7 KB of stack. The time of an audit grows with the table's length, that of a build with the
  * square of n (stack and times are measured, not proved). The archive wants memcpy and memset of the C library, and nothing
  * else.
  */
