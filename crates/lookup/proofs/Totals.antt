@@ -26,6 +26,7 @@ use Rattle.lookup.specs.Lookup.{visitOf, better, afterVisit, answerOf, l
 use Rattle.lookup.specs.Bounds.{PowerWithin, testsOf, sumFrom, refuses}
 use Rattle.lookup.specs.declared.walk.Walked.{Walked}
 use Rattle.lookup.specs.declared.walk.Walked.the-variants.{Ran, Broken}
+use Rattle.lookup.specs.declared.lookup.Looked.{Looked}
 use Rattle.lookup.specs.declared.lookup.Looked.the-variants.{Rule, Nothing, Refused}
 use Rattle.lookup.proofs.Counts.{walk-few}
 use Rattle.lookup.proofs.Visits.{visited-walks, from-none}
@@ -66,20 +67,20 @@ sum-le (suc k) q g f h =
     omega arith
 
 -- ---- the count
-pub answer-tests : (R : Rules) (h : List ℕ) (best t : ℕ) → testsIn (answerOf R h best t) ≡ t
-answer-tests R h best t = go (ltb best (rulesIn R))
-  where
-    go : (p : Bool) → testsIn (pick p (Rule best t (edgeOf R h best)) (Nothing t)) ≡ t
-    go true = refl
-    go false = refl
+-- what holds of a rule and of none holds of an answer
+module _ (R : Rules) (h : List ℕ) (best t : ℕ) where
+  answered : (P : Looked → Type 0) → P (Rule best t (edgeOf R h best)) → P (Nothing t) → P (answerOf R h best t)
+  answered P rule nothing = go (ltb best (rulesIn R))
+    where
+      go : (p : Bool) → P (pick p (Rule best t (edgeOf R h best)) (Nothing t))
+      go true = rule
+      go false = nothing
 
--- and it is none of a refusal
-pub answer-stands : (R : Rules) (h : List ℕ) (best t : ℕ) → refuses (answerOf R h best t) ≡ false
-answer-stands R h best t = go (ltb best (rulesIn R))
-  where
-    go : (p : Bool) → refuses (pick p (Rule best t (edgeOf R h best)) (Nothing t)) ≡ false
-    go true = refl
-    go false = refl
+  pub answer-tests : testsIn (answerOf R h best t) ≡ t
+  answer-tests = answered (λ x. testsIn x ≡ t) refl refl
+
+  pub answer-stands : refuses (answerOf R h best t) ≡ false
+  answer-stands = answered (λ x. refuses x ≡ false) refl refl
 
 module _ (R : Rules) (v : View) (h : List ℕ) where
   -- what each visit adds

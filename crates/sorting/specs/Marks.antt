@@ -1,6 +1,6 @@
 -- Scaffolding: only contracts of private functions cite this; nothing here has to be believed.
--- How `choose` finds the lowest free partition of a rule: by stamps, one a partition, that hold one more than the number of
--- the last rule for which the partition was found taken. No stamp is ever cleared. The contract of `choose` does not speak of
+-- How `first_fit` finds the lowest free partition of a rule: by stamps, one a partition, that hold one more than the number of
+-- the last rule for which the partition was found taken. No stamp is ever cleared. The contract of `first_fit` does not speak of
 -- them; those of the functions below it do.
 -- Assumes nothing: these are definitions.
 use Prim.Native.Nat.{ℕ, suc, _+_, _≤_, _<_}

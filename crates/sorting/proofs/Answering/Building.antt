@@ -2,18 +2,21 @@
 --     room-few, room-run                            room for 1,024 partition numbers
 --     chosen-fits, chosen-count                     of which the first n are chosen
 --     chosen-laying, chosen-parts, chosen-written   the table laid out with them
---     built-refused, built-fine, built-written      what a build answers and leaves
+--     left-refused, left-written                    what is answered and left, by a refusal
+--     built-refused, built-fine, built-written      the same of a build
 -- Assumes nothing.
 use Prim.Native.Nat.{ℕ, _≤_}
 use mathlib.Core.List.{List, _++_}
 use mathlib.Core.Path.{_≡_, sym, ap, _∙_}
 use native.Mathlib.Omega.{arith}
 use lib.ListN.{length, take, replicate}
-use borrow.Author.Tests.{eq-eqb, ne-eqb}
+use Rattle.ranges.specs.Numbers.{pick}
+use Rattle.ranges.specs.Refusals.{stands, countUnless}
 use Rattle.ranges.specs.declared.refusal.Refusal.{Refusal}
 use Rattle.ranges.specs.declared.refusal.Count.the-variants.{Is, Refused}
 use Rattle.lists.specs.Limits.{mostRules}
 use Rattle.lists.specs.Rules.{Rules, rulesIn}
+use Rattle.lists.proofs.Faults.{by-refused, by-stands}
 use Rattle.lists.proofs.Sound.{list-shaped}
 use Rattle.sorting.specs.FirstFit.{firstFit, parts, Chosen}
 use Rattle.sorting.specs.Table.{tableOf, builtTable}
@@ -62,21 +65,25 @@ module _ {R : Rules} {T : List ℕ} (h : Buildable R T) {n : ℕ} (is-n : n ≡ 
     pub chosen-written : {after : List ℕ} → after ≡ tableOf R (take n (run ++ rest)) → after ≡ builtTable R
     chosen-written is = is ∙ ap (tableOf R) chosen-is
 
+-- ---- what is answered, and left of what is lent, by a refusal y that a callee gave as x: k is what is counted, new is written over old
+module _ (x y : Refusal) (is-x : x ≡ y) (k : ℕ) (new old : List ℕ) where
+  pub left-refused : (x .number ≡ 0 → ⊥) → (Refused x ≡ countUnless y k) × (old ≡ pick (stands y) new old)
+  left-refused ne = (by-refused x y is-x Refused (Is k) ne, by-refused x y is-x (λ _. old) new ne)
+
+  pub left-written : x .number ≡ 0 → {b : ℕ} {after : List ℕ} → b ≡ k → after ≡ new → (Is b ≡ countUnless y k) × (after ≡ pick (stands y) new old)
+  left-written z is-b is-after = (ap Is is-b ∙ by-stands x y is-x (Is k) (Refused y) z, is-after ∙ by-stands x y is-x new old z)
+
 -- ---- what a build answers and leaves
 module _ (R : Rules) (T : List ℕ) (x : Refusal) (is-x : x ≡ buildFault R T) where
   pub built-refused : (x .number ≡ 0 → ⊥) → Built R T T (Refused x)
   built-refused ne =
-      record {
-        answers = rw (← is-x, ne-eqb (x .number) 0 ne);
-        leaves = rw (← is-x, ne-eqb (x .number) 0 ne);
-      }
+      let left = left-refused x (buildFault R T) is-x (builtParts R) (builtTable R) T ne in
+      record { answers = left .0; leaves = left .1 }
 
   pub built-fine : x .number ≡ 0 → Buildable R T
   built-fine z = buildable R T (rw is-x at z)
 
   pub built-written : x .number ≡ 0 → {b : ℕ} {after : List ℕ} → b ≡ builtParts R → after ≡ builtTable R → Built R T after (Is b)
-  built-written z {b} {after} is-b is-after =
-      record {
-        answers = rw (← is-x, eq-eqb (x .number) 0 z) (ap Is is-b);
-        leaves = rw (← is-x, eq-eqb (x .number) 0 z) is-after;
-      }
+  built-written z is-b is-after =
+      let left = left-written x (buildFault R T) is-x (builtParts R) (builtTable R) T z is-b is-after in
+      record { answers = left .0; leaves = left .1 }

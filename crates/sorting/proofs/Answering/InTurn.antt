@@ -14,12 +14,12 @@ use Rattle.ranges.specs.declared.refusal.Refusal.{Refusal}
 use Rattle.ranges.specs.declared.refusal.Count.the-variants.{Is, Refused}
 use Rattle.lists.specs.Rules.{Rules, rulesIn}
 use Rattle.ranges.proofs.InARow.{counted, not-counted, written, not-written}
-use Rattle.lists.proofs.Faults.{by-refused, by-stands}
 use Rattle.sorting.specs.FirstFit.{firstFit, parts, Chosen}
 use Rattle.sorting.specs.Table.{tableOf, builtTable}
 use Rattle.sorting.specs.Asked.{Numbered, Laying}
 use Rattle.sorting.specs.Build.{Buildable, buildFault, builtParts, buildOf, tableAfter}
 use Rattle.sorting.specs.Brought.{chooseFault, runAfter, ChosenInto, layFault, layOutOf, laidAfter, LaidInto}
+use Rattle.sorting.proofs.Answering.Building.{left-refused, left-written}
 use Rattle.sorting.proofs.Answering.RunFaults.{choosable-iff, choosable-run, Layable, layable-iff, layable-laying, lay-first}
 use Rattle.sorting.proofs.Answering.BuildFaults.{buildable}
 use Rattle.sorting.proofs.Partitions.FirstFits.{first-fit-length, first-fit-choice}
@@ -27,34 +27,34 @@ use Rattle.sorting.proofs.Partitions.FirstFits.{first-fit-length, first
 -- ---- a choice: x is its refusal, as a callee gave it
 module _ (R : Rules) (run : List ℕ) (x : Refusal) (is-x : x ≡ chooseFault R run) where
   pub chosen-refused : (x .number ≡ 0 → ⊥) → ChosenInto R run run (Refused x)
-  chosen-refused ne = record { answers = by-refused x (chooseFault R run) is-x Refused (Is (builtParts R)) ne; leaves = by-refused x (chooseFault R run) is-x (λ _. run) (firstFit R (rulesIn R)) ne }
+  chosen-refused ne =
+      let left = left-refused x (chooseFault R run) is-x (builtParts R) (firstFit R (rulesIn R)) run ne in
+      record { answers = left .0; leaves = left .1 }
 
   module _ (z : x .number ≡ 0) where
     pub chosen-fine : Numbered R run
     chosen-fine = choosable-run R run (choosable-iff R run .0 (rw is-x at z))
 
     pub chosen-into : {after : List ℕ} {b : ℕ} → Chosen R after b → ChosenInto R run after (Is b)
-    chosen-into {after} {b} h =
-        record {
-          answers = ap Is (h .opened) ∙ by-stands x (chooseFault R run) is-x (Is (builtParts R)) (Refused (chooseFault R run)) z;
-          leaves = h .numbers ∙ by-stands x (chooseFault R run) is-x (firstFit R (rulesIn R)) run z;
-        }
+    chosen-into h =
+        let left = left-written x (chooseFault R run) is-x (builtParts R) (firstFit R (rulesIn R)) run z (h .opened) (h .numbers) in
+        record { answers = left .0; leaves = left .1 }
 
 -- ---- a laying out
 module _ (R : Rules) (run T : List ℕ) (x : Refusal) (is-x : x ≡ layFault R run T) where
   pub laid-refused : (x .number ≡ 0 → ⊥) → LaidInto R run T T (Refused x)
-  laid-refused ne = record { answers = by-refused x (layFault R run T) is-x Refused (Is (parts run (rulesIn R))) ne; leaves = by-refused x (layFault R run T) is-x (λ _. T) (tableOf R run) ne }
+  laid-refused ne =
+      let left = left-refused x (layFault R run T) is-x (parts run (rulesIn R)) (tableOf R run) T ne in
+      record { answers = left .0; leaves = left .1 }
 
   module _ (z : x .number ≡ 0) where
     pub laid-fine : Laying R run T
     laid-fine = layable-laying R run T (layable-iff R run T .0 (rw is-x at z))
 
     pub laid-into : {after : List ℕ} {b : ℕ} → b ≡ parts run (rulesIn R) → after ≡ tableOf R run → LaidInto R run T after (Is b)
-    laid-into {after} {b} is-b is-after =
-        record {
-          answers = ap Is is-b ∙ by-stands x (layFault R run T) is-x (Is (parts run (rulesIn R))) (Refused (layFault R run T)) z;
-          leaves = is-after ∙ by-stands x (layFault R run T) is-x (tableOf R run) T z;
-        }
+    laid-into is-b is-after =
+        let left = left-written x (layFault R run T) is-x (parts run (rulesIn R)) (tableOf R run) T z is-b is-after in
+        record { answers = left .0; leaves = left .1 }
 
 -- ---- the two in turn
 module _ (R : Rules) (T : List ℕ) where
