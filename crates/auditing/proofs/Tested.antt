@@ -1,7 +1,7 @@
 -- The tests of a linear audit (`specs/Checks.antt`) pass exactly where the local facts hold (`specs/Checked.antt`).
 --     Passed, passed, passed-all            all tests, one by one
 --     passed-checked, checked-passed        they say what the facts say, either way
---     laid-fields, laid-few, laid-parted, by-opening, by-starts, by-rules, by-parts      as the code makes them
+--     laid-fields, laid-held, laid-few, laid-parted, by-opening, by-starts, by-rules, by-parts      as the code makes them
 -- Assumes nothing.
 use Prim.Native.Nat.{ℕ, zero, suc, _+_, _-_, _≤_, _<_}
 use mathlib.Core.Bool.{Bool, true, false, not}
@@ -312,8 +312,9 @@ module _ (R : Rules) (T : List ℕ) {x : Refusal} (is-x : x ≡ openFault R T) w
       pub laid-few : n ≤ mostRules
       laid-few = omega (arith, laid-open .shape-stands .few-rules)
 
-      laid-held : Held R n (fieldsOf R) T
-      laid-held = record { is-d = refl; sized = subst (λ m. TableFor m (fieldsOf R) T) (sym is-n) (laid-open .sized) }
+      pub laid-held : Held R n (fieldsOf R) T
+      laid-held =
+          record { shape-stands = laid-open .shape-stands; is-n = is-n; is-d = refl; sized = subst (λ m. TableFor m (fieldsOf R) T) (sym is-n) (laid-open .sized) }
 
       module _ {s : Bool} (is-s : s ≡ all n (startFine (getD T bAt 0) (startIn n T))) where
         starts-are : all (rulesIn R) (startFine (viewOf R T .b) (viewOf R T .start)) ≡ s
@@ -339,6 +340,7 @@ module _ (R : Rules) (T : List ℕ) {x : Refusal} (is-x : x ≡ openFault R T) w
               (all-at (startFine (viewOf R T .b) (viewOf R T .start)) (rulesIn R) (starts-are ∙ not-false s ascend) q (omega (arith, o .few-parts))) in
               record {
                 held = laid-held;
+                few = omega (arith, is-n, o .few-parts);
                 ascend = subst (λ m. (q : ℕ) → q < getD T bAt 0 → startIn m T q < startIn m T (suc q)) (sym is-n) up;
                 within = subst (λ m. (q : ℕ) → q < getD T bAt 0 → startIn m T (suc q) ≤ m) (sym is-n) (ends-within o up);
               }

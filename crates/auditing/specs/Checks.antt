@@ -9,7 +9,7 @@ use lib.Dec.{ltb, eqb}
 use Rattle.ranges.specs.Numbers.{pick, _and_, all}
 use Rattle.ranges.specs.Refusals.{stands}
 use Rattle.lists.specs.Limits.{mostFields}
-use Rattle.lists.specs.Rules.{Rules, fieldsOf, rulesIn}
+use Rattle.lists.specs.Rules.{Rules, fieldsOf, rulesIn, Shaped}
 use Rattle.ordering.specs.Order.{beforeBy}
 use Rattle.tables.specs.Layout.{View, TableFor, view, startIn}
 use Rattle.tables.specs.Opening.{viewOf, openFault}
@@ -55,8 +55,10 @@ unfoldable pub checks : Rules → List ℕ → Bool
 checks R T = stands (openFault R T) and partsFine R (viewOf R T)
 
 -- ---- what the functions ask
--- a list's d, and a table of the right length for n rules of d fields
+-- a list whose shape stands, its n and d, and a table of the right length for it
 pub record Held (R : Rules) (n d : ℕ) (T : List ℕ) : Type 0 where
+  pub shape-stands : Shaped R
+  pub is-n : n ≡ rulesIn R
   pub is-d : d ≡ fieldsOf R
   pub sized : TableFor n d T
 
@@ -80,5 +82,6 @@ pub record Span (R : Rules) (n d : ℕ) (T : List ℕ) (s e : ℕ) : Type 0 wher
 -- its b partitions each have a place, and end within the n
 pub record Parted (R : Rules) (n d : ℕ) (T : List ℕ) : Type 0 where
   pub held : Held R n d T
+  pub few : view n d T .b ≤ n
   pub ascend : (q : ℕ) → q < view n d T .b → startIn n T q < startIn n T (suc q)
   pub within : (q : ℕ) → q < view n d T .b → startIn n T (suc q) ≤ n
