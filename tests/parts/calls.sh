@@ -96,8 +96,8 @@ odd_inputs() {
     compare_lines 'lists, edges, in pieces' "$input" in_pieces
 }
 
-# 02, W8 and W4: lines with dates, and with choices of partitions, each with the answer that it must have. The second
-# program has no say here.
+# 02, W8, W4 and W5: lines with dates, with choices of partitions, and with stored smallest rule numbers, each with the
+# answer that it must have. The second program has no say here.
 worked_lines() {
     local line want got
     while IFS= read -r line && IFS= read -r want; do
@@ -109,8 +109,8 @@ worked_lines() {
             fail 1
         fi
     done <<'END'
-build 1:10000000 4 1 5 5 9 12 0 0 0 0 0 0 0 0 0 0 0 0
-ok 1 table 2 1 1 0 1 0 2 0 0 1 1 2
+build 1:10000000 4 1 5 5 9 14 9 9 9 9 9 9 9 9 9 9 9 9 9 9
+ok 1 table 2 1 1 0 1 0 2 0 0 0 0 1 1 2
 check 1:10000000 2 5 5
 refused 4 0 0
 check 1:01111111 2 5 5
@@ -121,10 +121,26 @@ side 1:10000000 0 5 6 5
 ok both
 side 1:10000000 0 0 0 0
 ok above
-layout 1 6 0 9 0 9 0 9 3 2 0 1 16 7 7 7 7 7 7 7 7 7 7 7 7 7 7 7 7
-ok 3 table 3 1 3 1 2 0 0 1 2 3 0 1 2 1 2 3
-audit 1 6 0 9 0 9 0 9 16 3 1 3 1 2 0 0 1 2 3 0 1 2 1 2 3
+layout 1 6 0 9 0 9 0 9 3 2 0 1 19 7 7 7 7 7 7 7 7 7 7 7 7 7 7 7 7 7 7 7
+ok 3 table 3 1 3 1 2 0 0 1 2 3 1 2 0 0 1 2 1 2 3
+audit 1 6 0 9 0 9 0 9 19 3 1 3 1 2 0 0 1 2 3 1 2 0 0 1 2 1 2 3
 ok yes
+audit 1 6 0 9 0 9 0 9 19 3 1 3 1 2 0 0 1 2 3 65535 2 0 0 1 2 1 2 3
+ok no
+lookup 1 6 0 9 0 9 0 9 19 3 1 3 1 2 0 0 1 2 3 1 2 0 0 1 2 1 2 3 5 0 0 0 0 0 0 0
+ok 0 2 plain
+lookup 1 6 0 9 0 9 0 9 19 3 1 3 1 2 0 0 1 2 3 65535 2 0 0 1 2 1 2 3 5 0 0 0 0 0 0 0
+ok 0 2 plain
+lookup 1 6 0 9 0 9 0 9 19 3 1 3 1 2 0 0 1 2 3 1 1 0 0 1 2 1 2 3 5 0 0 0 0 0 0 0
+ok 0 3 plain
+lookup 1 6 0 9 0 9 0 9 19 3 1 3 1 3 0 0 1 2 3 1 2 0 0 1 2 1 2 3 5 0 0 0 0 0 0 0
+ok 0 2 plain
+lookup 1 6 0 9 0 9 0 9 19 3 1 3 1 3 0 0 1 2 3 1 1 0 0 1 2 1 2 3 5 0 0 0 0 0 0 0
+refused 6 0 0
+report 1 6 0 9 0 9 0 9 19 3 1 3 1 2 0 0 1 2 3 1 2 0 0 1 2 1 2 3 0
+ok 1 1
+report 1 6 0 9 0 9 0 9 19 3 1 3 1 2 0 0 1 2 3 65535 2 0 0 1 2 1 2 3 0
+refused 6 0 0
 choose 1 6 0 9 0 9 0 9 3 7 7 7
 ok 3 run 0 1 2
 choose 1 0 0
@@ -135,14 +151,14 @@ layout 1 0 0 4 7 7 7 7
 ok 0 table 0 1 0 0
 layout 1 0 1 0 4 7 7 7 7
 refused 15 0 0 table 7 7 7 7
-layout 1 6 7 7 7 7 7 7 3 0 3 0 16 1 1 1 1 1 1 1 1 1 1 1 1 1 1 1 1
-refused 16 0 0 table 1 1 1 1 1 1 1 1 1 1 1 1 1 1 1 1
-layout 1 6 7 7 7 7 7 7 3 0 0 2 16 1 1 1 1 1 1 1 1 1 1 1 1 1 1 1 1
-refused 17 0 0 table 1 1 1 1 1 1 1 1 1 1 1 1 1 1 1 1
-layout 1 6 7 7 7 7 7 7 3 1 1 1 16 1 1 1 1 1 1 1 1 1 1 1 1 1 1 1 1
-refused 17 0 0 table 1 1 1 1 1 1 1 1 1 1 1 1 1 1 1 1
-layout 1 6 7 7 7 7 7 7 3 0 0 1 16 1 1 1 1 1 1 1 1 1 1 1 1 1 1 1 1
-refused 18 0 0 table 1 1 1 1 1 1 1 1 1 1 1 1 1 1 1 1
+layout 1 6 7 7 7 7 7 7 3 0 3 0 19 1 1 1 1 1 1 1 1 1 1 1 1 1 1 1 1 1 1 1
+refused 16 0 0 table 1 1 1 1 1 1 1 1 1 1 1 1 1 1 1 1 1 1 1
+layout 1 6 7 7 7 7 7 7 3 0 0 2 19 1 1 1 1 1 1 1 1 1 1 1 1 1 1 1 1 1 1 1
+refused 17 0 0 table 1 1 1 1 1 1 1 1 1 1 1 1 1 1 1 1 1 1 1
+layout 1 6 7 7 7 7 7 7 3 1 1 1 19 1 1 1 1 1 1 1 1 1 1 1 1 1 1 1 1 1 1 1
+refused 17 0 0 table 1 1 1 1 1 1 1 1 1 1 1 1 1 1 1 1 1 1 1
+layout 1 6 7 7 7 7 7 7 3 0 0 1 19 1 1 1 1 1 1 1 1 1 1 1 1 1 1 1 1 1 1 1
+refused 18 0 0 table 1 1 1 1 1 1 1 1 1 1 1 1 1 1 1 1 1 1 1
 END
 }
 

@@ -133,7 +133,7 @@ messages_over_a_pipe() {
     eval "exec ${served[1]}>&-"
     IFS= read -r -t 20 ends <&"${served[0]}"
     wait "$served_PID" 2>/dev/null
-    [ "$head" = $'rule,tests\r' ] && [ "$answer" = $'1,6\r' ] && [ "$other" = $'2,6\r' ] && [ -z "$ends" ]
+    [ "$head" = $'rule,tests\r' ] && [ "$answer" = $'1,2\r' ] && [ "$other" = $'2,3\r' ] && [ -z "$ends" ]
     judge $? 'gateway serves over a pipe, an answer for each line as it comes'
 }
 

@@ -8,7 +8,7 @@
 --     place-once-in, part-off, off-at, off-long      the place of a rule; the run read off
 --     all-sorted                            all pairs of a partition ascend
 --     off-choice                            the run read off is a choice
---     off-place, off-rule, off-start, off-from, off-to      and each number of its table is this table's
+--     off-place, off-rule, off-start, off-least, off-from, off-to      and each number of its table is this table's
 -- Assumes nothing.
 use Prim.Native.Nat.{ℕ, zero, suc, _+_, _-_, _≤_, _<_}
 use mathlib.Core.Bool.{Bool, true, false}
@@ -21,7 +21,7 @@ use lib.Dec.{ltb, eqb}
 use lib.ListN.{length}
 use borrow.Author.Tests.{lt-ltb, eq-eqb, ne-eqb, ltb-true, ltb-false, eqb-true, eqb-false}
 use Rattle.ranges.specs.Numbers.{pick, least}
-use Rattle.ranges.proofs.Numbers.{never, least-hit, least-under, least-upto, tab-length, tab-at}
+use Rattle.ranges.proofs.Numbers.{never, least-is, least-hit, least-under, least-upto, tab-length, tab-at}
 use Rattle.ranges.proofs.Counting.{onto}
 use Rattle.lists.specs.Rules.{Rules, fieldsOf, rulesIn}
 use Rattle.lists.proofs.Sound.{Sound}
@@ -31,11 +31,12 @@ use Rattle.ranges.specs.Standings.{isBefore, isClash}
 use Rattle.ranges.specs.declared.standing.Standing.{Standing}
 use Rattle.ranges.specs.declared.standing.Standing.the-variants.{Alike, Before, After, Clash}
 use Rattle.sorting.specs.FirstFit.{partOf, Choice}
-use Rattle.sorting.specs.Table.{ahead, placeOf, ruleAt, startOf, inRun, runFrom, runTo}
-use Rattle.sorting.specs.Promise.{InPart}
+use Rattle.sorting.specs.Table.{ahead, placeOf, ruleAt, startOf, leastOf, inRun, runFrom, runTo}
+use Rattle.sorting.specs.Promise.{InPart, Smallest}
 use Rattle.ordering.proofs.Ordering.{before-trans, clash-sym}
 use Rattle.sorting.proofs.Sorted.Places.{ahead-lower, ahead-same, place-lt, place-mono, rule-place}
 use Rattle.sorting.proofs.Sorted.Starts.{start-last, start-zero, in-part}
+use Rattle.sorting.proofs.Sorted.Leasts.{least-part}
 use Rattle.ordering.proofs.Fields.{alike-under}
 use Rattle.sorting.proofs.Sorted.Runs.{run-turn, from-first, from-same, from-new, to-last, to-same, to-new}
 use Rattle.auditing.specs.ReadOff.{partAt, placeIn, runOff}
@@ -276,6 +277,30 @@ module _ {R : Rules} {v : View} (h : Checked R v) where
         let first : InPart v (suc q) (v .start (suc q)) = record { part = lt; from-start = omega arith; to-next = h .ascend (suc q) lt } in
         omega (arith, between (suc q) (v .start (suc q)) first .0, between q (v .start (suc q) - 1) last .1))
         (eq-or-lt-of-le le)
+
+    -- ---- the smallest rules
+    pub off-least : (q : ℕ) → q < v .b → leastOf R off q ≡ v .least q
+    off-least q lt = least-part off-choice q lt ∙ least-is (λ i. eqb (partOf off i) q) (rulesIn R) (v .least q) is-rule here under
+      where
+        of : Smallest v q (v .least q)
+        of = h .smallest q lt
+
+        is-p : of .at .0 < rulesIn R
+        is-p = part-place q (of .at .0) (of .at .1)
+
+        is-rule : v .least q < rulesIn R
+        is-rule = omega (arith, h .order-rule (of .at .0) is-p, of .at .2)
+
+        here : eqb (partOf off (v .least q)) q ≡ true
+        here = eq-eqb (partOf off (v .least q)) q (ap (partOf off) (sym (of .at .2)) ∙ off-at (of .at .0) is-p ∙ part-is q (of .at .0) (of .at .1))
+
+        -- a smaller rule of the partition would stand at one of its places
+        under : (i : ℕ) → i < v .least q → eqb (partOf off i) q ≡ false
+        under i less = ne-eqb (partOf off i) q (λ e.
+            let is-i : i < rulesIn R = omega (arith, is-rule) in
+            let at = place-at i is-i in
+            let in-q = subst (λ x. InPart v x (placeIn (rulesIn R) v i)) (sym (part-off i is-i) ∙ e) (part-at (placeIn (rulesIn R) v i) (at .0)) in
+            omega (arith, of .least-of (placeIn (rulesIn R) v i) in-q, at .1))
 
     -- ---- the runs
     -- neighbours of one partition are in one run where f is below how many first fields they have alike

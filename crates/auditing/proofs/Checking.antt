@@ -2,6 +2,7 @@
 --     cell-from, cell-to                      a run-from, a run-to that is read stands in the table
 --     start-part, start-behind, starts-told   one start, and all of them
 --     Marked, marked-none, marked-over, marked-twice, marked-more, marked-end      each rule marked once
+--     least-part, least-behind, leasts-told   one smallest number, and all of them
 --     meet-not, meet-test                     one field of two neighbours
 --     end-not, end-test                       one field of a partition's first and last place
 --     next-not, next-test                     two neighbours
@@ -23,11 +24,11 @@ use Rattle.lists.specs.Limits.{mostFields, mostRules}
 use Rattle.lists.specs.Rules.{Rules, fieldsOf}
 use Rattle.lists.proofs.Search.{Answered, answered-none, answered-more, answered-all}
 use Rattle.ordering.specs.Order.{beforeBy}
-use Rattle.tables.specs.Layout.{View, view, bAt, startIn, fromAt, toAt}
+use Rattle.tables.specs.Layout.{View, view, bAt, orderIn, startIn, leastIn, fromAt, toAt}
 use Rattle.tables.proofs.Offsets.{from-inside, to-inside}
 use Rattle.sorting.specs.Asked.{Seen}
 use Rattle.sorting.proofs.Partitions.Seen.{seen-none, seen-more, seen-fresh, seen-before}
-use Rattle.auditing.specs.Checks.{startFine, ruleFine, meets, nextBy, nextFine, endFine, spanFine, partFine, Held, Cell, Span, Parted}
+use Rattle.auditing.specs.Checks.{startFine, ruleFine, leastFrom, leastFine, meets, nextBy, nextFine, endFine, spanFine, partFine, Held, Cell, Span, Parted}
 
 -- ---- what is read stands in the table
 module _ {n d : ℕ} {T : List ℕ} {p f : ℕ} (h : Cell n d T p f) {k : ℕ} where
@@ -82,6 +83,22 @@ module _ {n : ℕ} {order : ℕ → ℕ} {marks : List ℕ} {p : ℕ} (h : Marke
 
 pub marked-end : {n : ℕ} {order : ℕ → ℕ} {marks : List ℕ} {p : ℕ} → Marked n order marks p → n ≤ p → true ≡ all n (ruleFine n order)
 marked-end h past = answered-all (h .told) past
+
+-- ---- one smallest number: x, s and e are what readers gave, y what the places say
+module _ (n b : ℕ) (order start least : ℕ → ℕ) (q : ℕ) {x : ℕ} (is-x : x ≡ least q) where
+  pub least-behind : b ≤ q → eqb x 0 ≡ leastFine n b order start least q
+  unfolding leastFine
+  least-behind le = rw (← is-x, le-ltb q b le)
+
+  pub least-part : q < b → {s e : ℕ} → s ≡ start q → e ≡ start (suc q) → {y : ℕ} → y ≡ leastFrom n order s e
+      → eqb x y ≡ leastFine n b order start least q
+  unfolding leastFine
+  least-part lt is-s is-e is-y = rw (← is-x, lt-ltb q b lt, is-y, is-s, is-e)
+
+-- b as it was read
+pub leasts-told : (T : List ℕ) (n : ℕ) {b : ℕ} → b ≡ getD T bAt 0 → {r : Bool} → r ≡ all n (leastFine n b (orderIn T) (startIn n T) (leastIn n T))
+    → r ≡ all n (leastFine n (getD T bAt 0) (orderIn T) (startIn n T) (leastIn n T))
+leasts-told T n is-b is-r = is-r ∙ ap (λ x. all n (leastFine n x (orderIn T) (startIn n T) (leastIn n T))) is-b
 
 -- ---- one field of two neighbours: x and y are the numbers of the other place, from and to what they ask for
 module _ (v : View) (a p f : ℕ) {x y from to : ℕ} (is-x : x ≡ v .from p f) (is-from : from ≡ pick (ltb f a) x (p + 1))

@@ -4,7 +4,7 @@
 --     off-back                     the run read off the table of a choice is the choice
 --     Made, checked-made, made-checked, made-once      the two as one statement: some choice makes the table; one alone
 -- Assumes nothing.
-use Prim.Native.Nat.{ℕ, zero, suc, _-_, _≤_, _<_}
+use Prim.Native.Nat.{ℕ, zero, suc, _≤_, _<_}
 use mathlib.Core.Bool.{Bool, true, false}
 use mathlib.Core.List.{List}
 use mathlib.Core.Path.{_≡_, refl, sym, ap, _∙_, subst}
@@ -19,18 +19,19 @@ use Rattle.lists.proofs.Sound.{Sound}
 use Rattle.tables.specs.Layout.{TableFor, View}
 use Rattle.tables.specs.Opening.{viewOf}
 use Rattle.sorting.specs.FirstFit.{partOf, parts, Choice}
-use Rattle.sorting.specs.Table.{placeOf, ruleAt, startOf, inRun, runFrom, runTo, tableOf}
+use Rattle.sorting.specs.Table.{placeOf, ruleAt, startOf, leastOf, inRun, runFrom, runTo, tableOf}
 use Rattle.sorting.proofs.Partitions.Parts.{choice-parts}
 use Rattle.ordering.proofs.Fields.{alike-under}
 use Rattle.sorting.proofs.Sorted.Places.{place-lt, rule-place, place-before}
 use Rattle.sorting.proofs.Sorted.Starts.{choice-few, start-past, start-few, start-ascend, in-part, place-part}
+use Rattle.sorting.proofs.Sorted.Leasts.{least-past}
 use Rattle.sorting.proofs.Sorted.Runs.{run-turn, from-first, from-same, from-new, to-last, to-same, to-new}
-use Rattle.sorting.proofs.Sorted.Reading.{table-sized, read-rules, read-fields, read-order, read-start, read-from, read-to}
+use Rattle.sorting.proofs.Sorted.Reading.{table-sized, read-rules, read-fields, read-order, read-start, read-least, read-from, read-to}
 use Rattle.sorting.proofs.Sorted.Kept.{seen-parts, seen-start, choice-keeps-promise}
 use Rattle.auditing.specs.ReadOff.{partAt, runOff}
 use Rattle.auditing.specs.Checked.{joined, Neighbours, Checked}
 use Rattle.tables.proofs.SameTable.{ReadAlike, same-table}
-use Rattle.auditing.proofs.Checked.{part-is, off-long, off-choice, off-rule, off-start, off-from, off-to, place-once-in, part-off}
+use Rattle.auditing.proofs.Checked.{part-is, off-long, off-choice, off-rule, off-start, off-least, off-from, off-to, place-once-in, part-off}
 
 -- ---- checked, so laid
 module _ {R : Rules} (T : List ℕ) (sound : Sound R) (h : Checked R (viewOf R T)) where
@@ -49,6 +50,15 @@ module _ {R : Rules} (T : List ℕ) (sound : Sound R) (h : Checked R (viewOf R T
           let past : v .b < q = leb-false q (v .b) e in
           start-past (off-choice h sound) q past ∙ sym (h .zeros q past le)
 
+  least-off : (q : ℕ) → q < rulesIn R → leastOf R read q ≡ v .least q
+  least-off q lt = go (ltb q (v .b)) refl
+    where
+      go : (t : Bool) → ltb q (v .b) ≡ t → leastOf R read q ≡ v .least q
+      go true e = off-least h sound q (ltb-true q (v .b) e)
+      go false e =
+          let past : v .b ≤ q = ltb-false q (v .b) e in
+          least-past (off-choice h sound) q past ∙ sym (h .no-least q past lt)
+
   read-alike : ReadAlike (rulesIn R) (fieldsOf R) v (viewOf R (tableOf R read))
   read-alike =
       record {
@@ -57,6 +67,7 @@ module _ {R : Rules} (T : List ℕ) (sound : Sound R) (h : Checked R (viewOf R T
         parts = sym (seen-parts (off-choice h sound));
         order = λ p lt. sym (read-order R read p lt ∙ off-rule h sound p lt);
         start = λ q le. sym (read-start R read q le ∙ start-off q le);
+        least = λ q lt. sym (read-least R read q lt ∙ least-off q lt);
         from = λ p f lt in-row. sym (read-from R read p f lt in-row ∙ off-from h sound p f lt in-row);
         to = λ p f lt in-row. sym (read-to R read p f lt in-row ∙ off-to h sound p f lt in-row);
       }
@@ -155,6 +166,8 @@ module _ {R : Rules} {run : List ℕ} {b : ℕ} (sound : Sound R) (choice : Choi
         last-start = kept .last-start;
         ascend = kept .ascend;
         zeros = λ q past le. read-start R run q le ∙ start-past choice q (omega (arith, seen-parts choice));
+        smallest = kept .smallest;
+        no-least = λ q past lt. read-least R run q lt ∙ least-past choice q (omega (arith, seen-parts choice));
         order-rule = kept .order-rule;
         order-once = kept .order-once;
         sorted = λ q p at.

@@ -1,4 +1,5 @@
 -- The laws that proofs of this crate and above cite, in the order of the argument.
+-- Minimum: the smallest of several numbers, and of a partition.
 -- Checked: what the local facts of a table say.
 -- Laid: a table has them exactly where some choice of partitions makes it.
 -- Tested: the tests of a linear audit pass exactly where the facts hold.
@@ -7,6 +8,7 @@
 -- Answers: what its answer says tells it apart from every other.
 -- Theorems: what a reader may rely on.
 -- Determined: the contract allows one result alone.
+pub mod Minimum
 pub mod Checked
 pub mod Laid
 pub mod Tested

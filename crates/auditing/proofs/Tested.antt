@@ -1,7 +1,7 @@
 -- The tests of a linear audit (`specs/Checks.antt`) pass exactly where the local facts hold (`specs/Checked.antt`).
 --     Passed, passed, passed-all            all tests, one by one
 --     passed-checked, checked-passed        they say what the facts say, either way
---     laid-fields, laid-held, laid-few, laid-parted, by-opening, by-starts, by-rules, by-parts      as the code makes them
+--     laid-fields, laid-held, laid-few, laid-parted, by-opening, by-starts, by-rules, by-leasts, by-parts      as the code makes them
 -- Assumes nothing.
 use Prim.Native.Nat.{ℕ, zero, suc, _+_, _-_, _≤_, _<_}
 use mathlib.Core.Bool.{Bool, true, false, not}
@@ -19,11 +19,13 @@ use Rattle.lists.specs.Limits.{mostFields, mostRules}
 use Rattle.lists.specs.Rules.{Rules, fieldsOf, rulesIn, Shaped}
 use Rattle.ordering.specs.Order.{before, beforeBy}
 use Rattle.ordering.proofs.BothIn.{by-says, by-yes}
-use Rattle.tables.specs.Layout.{View, TableFor, view, bAt, orderIn, startIn}
+use Rattle.tables.specs.Layout.{View, TableFor, view, bAt, orderIn, startIn, leastIn}
 use Rattle.tables.specs.Opening.{viewOf, openFault}
 use Rattle.tables.proofs.Opened.{Opened, opened, opened-none}
+use Rattle.sorting.specs.Promise.{InPart, Smallest}
 use Rattle.auditing.specs.Checked.{joined, Neighbours, Checked}
-use Rattle.auditing.specs.Checks.{startFine, ruleFine, meets, endFine, nextBy, nextFine, spanFine, partFine, partsFine, checks, Held, Parted}
+use Rattle.auditing.proofs.Minimum.{least-smallest, smallest-once}
+use Rattle.auditing.specs.Checks.{startFine, ruleFine, leastFrom, leastFine, meets, endFine, nextBy, nextFine, spanFine, partFine, partsFine, checks, Held, Parted}
 
 -- ---- one start
 module _ (b : ℕ) (start : ℕ → ℕ) (q : ℕ) where
@@ -65,6 +67,30 @@ module _ (n : ℕ) (order : ℕ → ℕ) (p : ℕ) where
   rule-yes : order p < n → ((r : ℕ) → r < p → order r ≡ order p → ⊥) → ruleFine n order p ≡ true
   unfolding ruleFine
   rule-yes lt unlike = rw (lt-ltb (order p) n lt, all-yes other p (λ r l. ap not (ne-eqb (order r) (order p) (unlike r l))))
+
+-- ---- one smallest number
+module _ (n : ℕ) (v : View) (q : ℕ) where
+  abbrev fine : Bool
+  fine = leastFine n (v .b) (v .order) (v .start) (v .least) q
+
+  abbrev lowest : ℕ
+  lowest = leastFrom n (v .order) (v .start q) (v .start (suc q))
+
+  least-told : q < v .b → fine ≡ true → v .least q ≡ lowest
+  unfolding leastFine
+  least-told lt e = eqb-true (v .least q) lowest (rw (lt-ltb q (v .b) lt) at e)
+
+  least-zero : v .b ≤ q → fine ≡ true → v .least q ≡ 0
+  unfolding leastFine
+  least-zero le e = eqb-true (v .least q) 0 (rw (le-ltb q (v .b) le) at e)
+
+  told-least : q < v .b → v .least q ≡ lowest → fine ≡ true
+  unfolding leastFine
+  told-least lt is = rw (lt-ltb q (v .b) lt) (eq-eqb (v .least q) lowest is)
+
+  zero-least : v .b ≤ q → v .least q ≡ 0 → fine ≡ true
+  unfolding leastFine
+  zero-least le z = rw (le-ltb q (v .b) le) (eq-eqb (v .least q) 0 z)
 
 -- ---- a partition from s to before e
 module _ (R : Rules) (v : View) (s e : ℕ) where
@@ -156,6 +182,7 @@ pub record Passed (R : Rules) (T : List ℕ) : Type 0 where
   pub opens : Opened R T
   pub starts : (q : ℕ) → q < rulesIn R → startFine (viewOf R T .b) (viewOf R T .start) q ≡ true
   pub rules : (p : ℕ) → p < rulesIn R → ruleFine (rulesIn R) (viewOf R T .order) p ≡ true
+  pub leasts : (q : ℕ) → q < rulesIn R → leastFine (rulesIn R) (viewOf R T .b) (viewOf R T .order) (viewOf R T .start) (viewOf R T .least) q ≡ true
   pub parts : (q : ℕ) → q < viewOf R T .b → partFine R (viewOf R T) q ≡ true
 
 module _ (R : Rules) (T : List ℕ) where
@@ -168,6 +195,12 @@ module _ (R : Rules) (T : List ℕ) where
   abbrev ruling : Bool
   ruling = all (rulesIn R) (ruleFine (rulesIn R) (v .order))
 
+  abbrev leastAt : ℕ → Bool
+  leastAt = leastFine (rulesIn R) (v .b) (v .order) (v .start) (v .least)
+
+  abbrev leasting : Bool
+  leasting = all (rulesIn R) leastAt
+
   abbrev parting : Bool
   parting = all (v .b) (partFine R v)
 
@@ -175,13 +208,15 @@ module _ (R : Rules) (T : List ℕ) where
   unfolding checks partsFine
   passed e =
       let o = stands (openFault R T) in
-      let rest = and-right o (starting and ruling and parting) e in
-      let last = and-right starting (ruling and parting) rest in
+      let rest = and-right o (starting and ruling and leasting and parting) e in
+      let behind = and-right starting (ruling and leasting and parting) rest in
+      let last = and-right ruling (leasting and parting) behind in
       record {
-        opens = opened R T (eqb-true (openFault R T .number) 0 (and-left o (starting and ruling and parting) e));
-        starts = all-at (startFine (v .b) (v .start)) (rulesIn R) (and-left starting (ruling and parting) rest);
-        rules = all-at (ruleFine (rulesIn R) (v .order)) (rulesIn R) (and-left ruling parting last);
-        parts = all-at (partFine R v) (v .b) (and-right ruling parting last);
+        opens = opened R T (eqb-true (openFault R T .number) 0 (and-left o (starting and ruling and leasting and parting) e));
+        starts = all-at (startFine (v .b) (v .start)) (rulesIn R) (and-left starting (ruling and leasting and parting) rest);
+        rules = all-at (ruleFine (rulesIn R) (v .order)) (rulesIn R) (and-left ruling (leasting and parting) behind);
+        leasts = all-at leastAt (rulesIn R) (and-left leasting parting last);
+        parts = all-at (partFine R v) (v .b) (and-right leasting parting last);
       }
 
   pub passed-all : Passed R T → checks R T ≡ true
@@ -191,6 +226,7 @@ module _ (R : Rules) (T : List ℕ) where
         ap stands (opened-none (h .opens)),
         all-yes (startFine (v .b) (v .start)) (rulesIn R) (h .starts),
         all-yes (ruleFine (rulesIn R) (v .order)) (rulesIn R) (h .rules),
+        all-yes leastAt (rulesIn R) (h .leasts),
         all-yes (partFine R v) (v .b) (h .parts),
       )
 
@@ -202,6 +238,12 @@ module _ {R : Rules} {T : List ℕ} (o : Opened R T) (ascend : (q : ℕ) → q <
 
   near-place : (q p : ℕ) → Neighbours (viewOf R T) q p → suc p < rulesIn R
   near-place q p at = omega (arith, at .to-next, ends-within q (at .part))
+
+  -- its smallest rule number
+  lowest-is : ((p : ℕ) → p < rulesIn R → viewOf R T .order p < rulesIn R) → (q : ℕ) → q < viewOf R T .b → Smallest (viewOf R T) q (lowest (rulesIn R) (viewOf R T) q)
+  lowest-is rule q lt =
+      let all-below : (p : ℕ) → InPart (viewOf R T) q p → viewOf R T .order p < rulesIn R = λ p at. rule p (omega (arith, at .to-next, ends-within q lt)) in
+      least-smallest (viewOf R T) (rulesIn R) q lt (ascend q lt) all-below
 
 module _ (R : Rules) (T : List ℕ) where
   abbrev w : View
@@ -220,6 +262,8 @@ module _ (R : Rules) (T : List ℕ) where
         zeros = λ q past le.
             let is : suc (q - 1) ≡ q = omega arith in
             subst (λ x. w .start x ≡ 0) is (start-zero (w .b) (w .start) (q - 1) (omega arith) (h .starts (q - 1) (omega arith)));
+        smallest = λ q lt. rw (least-told (rulesIn R) w q lt (h .leasts q (omega (arith, o .few-parts)))) (lowest-is o up rule q lt);
+        no-least = λ q past lt. least-zero (rulesIn R) w q past (h .leasts q lt);
         order-rule = rule;
         order-once = once;
         sorted = λ q p at. near q p at .first;
@@ -260,6 +304,7 @@ module _ (R : Rules) (T : List ℕ) where
         opens = o;
         starts = λ q lt. start q lt (ltb q (w .b)) refl;
         rules = λ p lt. rule-yes (rulesIn R) (w .order) p (h .order-rule p lt) (λ r l e. omega (arith, h .order-once r p (omega arith) lt e));
+        leasts = λ q lt. least q lt (ltb q (w .b)) refl;
         parts = λ q lt. span-yes R w (w .start q) (w .start (suc q)) (ends q lt) (λ p low high. next q p (record { part = lt; from-start = low; to-next = high }));
       }
     where
@@ -279,6 +324,12 @@ module _ (R : Rules) (T : List ℕ) where
       start q lt true e = let few = ltb-true q (w .b) e in up-start (w .b) (w .start) q few (h .ascend q few)
       start q lt false e = let past = ltb-false q (w .b) e in zero-start (w .b) (w .start) q past (h .zeros (suc q) (omega arith) lt)
 
+      least : (q : ℕ) → q < rulesIn R → (t : Bool) → ltb q (w .b) ≡ t → leastFine (rulesIn R) (w .b) (w .order) (w .start) (w .least) q ≡ true
+      least q lt true e =
+          let few = ltb-true q (w .b) e in
+          told-least (rulesIn R) w q few (smallest-once (h .smallest q few) (lowest-is o (h .ascend) (h .order-rule) q few))
+      least q lt false e = let past = ltb-false q (w .b) e in zero-least (rulesIn R) w q past (h .no-least q past lt)
+
       ends : (q : ℕ) → q < w .b → (f : ℕ) → f < fieldsOf R → endFine w (w .start q) (w .start (suc q)) f ≡ true
       ends q lt f in-row =
           let up = h .ascend q lt in
@@ -291,7 +342,7 @@ module _ (R : Rules) (T : List ℕ) where
           next-yes w p s (h .order-rule p (omega arith)) (h .order-rule (suc p) is-r)
           (record { first = h .sorted q p at; rows = λ f in-row. (h .from-next q p f at in-row, h .to-next q p f at in-row) })
 
--- ---- as the code makes them: x is the opening's refusal, n the number of rules, s, u and t what the tests said
+-- ---- as the code makes them: x is the opening's refusal, n the number of rules, s, u, m and t what the tests said
 module _ (R : Rules) (T : List ℕ) {x : Refusal} (is-x : x ≡ openFault R T) where
   pub by-opening : (x .number ≡ 0 → ⊥) → false ≡ checks R T
   unfolding checks
@@ -345,8 +396,16 @@ module _ (R : Rules) (T : List ℕ) {x : Refusal} (is-x : x ≡ openFault R T) w
                 within = subst (λ m. (q : ℕ) → q < getD T bAt 0 → startIn m T (suc q) ≤ m) (sym is-n) (ends-within o up);
               }
 
-          pub by-parts : not u ≡ false → {t : Bool} → t ≡ all (getD T bAt 0) (partFine R (view n (fieldsOf R) T)) → t ≡ checks R T
-          unfolding partsFine
-          by-parts once {t} is-t =
-              let here : all (viewOf R T .b) (partFine R (viewOf R T)) ≡ t = sym (subst (λ m. t ≡ all (getD T bAt 0) (partFine R (view m (fieldsOf R) T))) is-n is-t) in
-              sym (checks-is ∙ rw (starts-are, not-false s ascend, rules-are, not-false u once, here))
+          module _ (once : not u ≡ false) {m : Bool} (is-m : m ≡ all n (leastFine n (getD T bAt 0) (orderIn T) (startIn n T) (leastIn n T))) where
+            leasts-are : leasting R T ≡ m
+            leasts-are = sym (subst (λ k. m ≡ all k (leastFine k (getD T bAt 0) (orderIn T) (startIn k T) (leastIn k T))) is-n is-m)
+
+            pub by-leasts : not m ≡ true → false ≡ checks R T
+            unfolding partsFine
+            by-leasts e = sym (checks-is ∙ rw (starts-are, not-false s ascend, rules-are, not-false u once, leasts-are, not-true m e))
+
+            pub by-parts : not m ≡ false → {t : Bool} → t ≡ all (getD T bAt 0) (partFine R (view n (fieldsOf R) T)) → t ≡ checks R T
+            unfolding partsFine
+            by-parts true-least {t} is-t =
+                let here : all (viewOf R T .b) (partFine R (viewOf R T)) ≡ t = sym (subst (λ m. t ≡ all (getD T bAt 0) (partFine R (view m (fieldsOf R) T))) is-n is-t) in
+                sym (checks-is ∙ rw (starts-are, not-false s ascend, rules-are, not-false u once, leasts-are, not-false m true-least, here))

@@ -1,4 +1,4 @@
--- The local facts of a table, each of a place and the next or of a partition and the next: those that a linear audit tests. A table has
+-- The local facts of a table, each of a place and the next, of a partition or of a partition and the next: those that a linear audit tests. A table has
 -- them exactly where some choice of partitions makes it (`proofs/Laid.antt`, `checked-made`, `made-checked`).
 -- Assumes nothing: these are definitions.
 use Prim.Native.Nat.{ℕ, suc, _≤_, _<_}
@@ -9,6 +9,7 @@ use Rattle.ranges.specs.Numbers.{pick}
 use Rattle.lists.specs.Rules.{Rules, fieldsOf, rulesIn}
 use Rattle.ordering.specs.Order.{before, alikeFields}
 use Rattle.tables.specs.Layout.{View}
+use Rattle.sorting.specs.Promise.{Smallest}
 
 -- places p and p + 1 are both of partition q
 pub record Neighbours (v : View) (q p : ℕ) : Type 0 where
@@ -30,6 +31,9 @@ pub record Checked (R : Rules) (v : View) : Type 0 where
   pub last-start : v .start (v .b) ≡ rulesIn R
   pub ascend : (q : ℕ) → q < v .b → v .start q < v .start (suc q)
   pub zeros : (q : ℕ) → v .b < q → q ≤ rulesIn R → v .start q ≡ 0
+  -- the stored number of each partition is its smallest, zeros behind
+  pub smallest : (q : ℕ) → q < v .b → Smallest v q (v .least q)
+  pub no-least : (q : ℕ) → v .b ≤ q → q < rulesIn R → v .least q ≡ 0
   -- each rule stands at one place
   pub order-rule : (p : ℕ) → p < rulesIn R → v .order p < rulesIn R
   pub order-once : (p r : ℕ) → p < rulesIn R → r < rulesIn R → v .order p ≡ v .order r → p ≡ r

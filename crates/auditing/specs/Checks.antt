@@ -1,7 +1,7 @@
 -- Scaffolding: only contracts of private functions cite this; nothing here has to be believed.
 -- The tests of a linear audit, in the order in which the code makes them (`Checked.antt` has them as facts).
 -- Assumes nothing: these are definitions.
-use Prim.Native.Nat.{ℕ, suc, _+_, _-_, _≤_, _<_}
+use Prim.Native.Nat.{ℕ, zero, suc, min, _+_, _-_, _≤_, _<_}
 use mathlib.Core.Bool.{Bool, not}
 use mathlib.Core.List.{List}
 use mathlib.Core.Path.{_≡_}
@@ -21,6 +21,20 @@ startFine b start q = pick (ltb q b) (ltb (start q) (start (suc q))) (eqb (start
 -- the rule at place p is below n, and at none of the places before
 unfoldable pub ruleFine : ℕ → (ℕ → ℕ) → ℕ → Bool
 ruleFine n order p = ltb (order p) n and all p (λ r. not (eqb (order r) (order p)))
+
+-- the smallest of x and g 0, g 1, .. g (m - 1)
+unfoldable pub smallest : (ℕ → ℕ) → ℕ → ℕ → ℕ
+smallest g x zero = x
+smallest g x (suc m) = min (smallest g x m) (g m)
+
+-- the smallest rule number of places s to before e, or n where none is smaller
+-- (of the bench table's partition 0, at places 0 to 2: 0)
+abbrev pub leastFrom : ℕ → (ℕ → ℕ) → ℕ → ℕ → ℕ
+leastFrom n order s e = smallest (λ k. order (s + k)) n (e - s)
+
+-- of b partitions, the number stored for q: the smallest rule number of its places where q is one of them, else 0
+unfoldable pub leastFine : ℕ → ℕ → (ℕ → ℕ) → (ℕ → ℕ) → (ℕ → ℕ) → ℕ → Bool
+leastFine n b order start least q = eqb (least q) (pick (ltb q b) (leastFrom n order (start q) (start (suc q))) 0)
 
 -- field f of places p and p + 1, whose rules have their first a fields alike: the run-from of p + 1, the run-to of p
 unfoldable pub meets : View → ℕ → ℕ → ℕ → Bool
@@ -46,9 +60,13 @@ spanFine R v s e = all (fieldsOf R) (endFine v s e) and all (e - s - 1) (λ k. n
 abbrev pub partFine : Rules → View → ℕ → Bool
 partFine R v q = spanFine R v (v .start q) (v .start (suc q))
 
--- the table's starts, its order, and each partition
+-- the table's starts, its order, its smallest numbers, and each partition
 unfoldable pub partsFine : Rules → View → Bool
-partsFine R v = all (rulesIn R) (startFine (v .b) (v .start)) and all (rulesIn R) (ruleFine (rulesIn R) (v .order)) and all (v .b) (partFine R v)
+partsFine R v =
+    all (rulesIn R) (startFine (v .b) (v .start))
+    and all (rulesIn R) (ruleFine (rulesIn R) (v .order))
+    and all (rulesIn R) (leastFine (rulesIn R) (v .b) (v .order) (v .start) (v .least))
+    and all (v .b) (partFine R v)
 
 -- all of it: the table opens, and then these
 unfoldable pub checks : Rules → List ℕ → Bool

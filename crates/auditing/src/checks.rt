@@ -8,19 +8,20 @@ use tables::layout::from_at;
 use tables::layout::to_at;
 use tables::opening::open_fault;
 use tables::read::end_of;
+use tables::read::least_of;
 use tables::read::part_count;
 use tables::read::rule_at;
 use tables::read::run_from;
 use tables::read::run_to;
 use tables::read::start_of;
 ghost use mathlib.Core.Path.{_≡_};
-ghost use Prim.Native.Nat.{suc, _≤_, _<_};
+ghost use Prim.Native.Nat.{suc, min, _≤_, _<_};
 ghost use lib.ListN.{getD};
 ghost use Rattle.ranges.specs.Numbers.{all, pick};
 ghost use Rattle.lists.specs.Limits.{mostRules};
 ghost use Rattle.lists.specs.Rules.{listed};
-ghost use Rattle.tables.specs.Layout.{view, bAt, orderIn, startIn};
-ghost use Rattle.auditing.specs.Checks.{startFine, ruleFine, meets, nextFine, endFine, spanFine, partFine, checks, Held, Cell, Pair, Span, Parted};
+ghost use Rattle.tables.specs.Layout.{view, bAt, orderIn, startIn, leastIn};
+ghost use Rattle.auditing.specs.Checks.{startFine, ruleFine, leastFrom, leastFine, meets, nextFine, endFine, spanFine, partFine, checks, Held, Cell, Pair, Span, Parted};
 
 // ---- the starts
 
@@ -69,6 +70,58 @@ fn rules_fine(table: &[u16], n: u16) -> bool
         }
         marks[i as usize] = 1;
         p += 1;
+    }
+    true
+}
+
+// ---- the smallest rule numbers
+
+// Gives the smaller of two numbers.
+fn smaller(a: u16, b: u16) -> u16
+    ensures { λ r. ⌜ r ≡ min a b ⌝ }
+{
+    if b < a {
+        return b;
+    }
+    a
+}
+
+// Gives the smallest rule number of places s to before e, or n where none is smaller.
+fn least_rule(table: &[u16], n: u16, s: u16, e: u16) -> u16
+    ensures { λ r. ⌜ r ≡ leastFrom n (orderIn (now (table .entry))) s e ⌝ }
+{
+    let mut least = n;
+    let mut p = s;
+    while p < e {
+        least = smaller(least, rule_at(table, p));
+        p += 1;
+    }
+    least
+}
+
+// Says whether the number stored for q is right, of b partitions: the smallest rule number of its places where q is one of
+// them, else 0.
+fn least_fine(table: &[u16], n: u16, b: u16, q: u16) -> bool
+    ensures { λ r. ⌜ r ≡ leastFine n b (orderIn (now (table .entry))) (startIn n (now (table .entry))) (leastIn n (now (table .entry))) q ⌝ }
+{
+    let stored = least_of(table, n, q);
+    if b <= q {
+        return stored == 0;
+    }
+    stored == least_rule(table, n, start_of(table, n, q), end_of(table, n, q))
+}
+
+// Says whether the n numbers stored are right: the smallest of each partition, and 0 behind the last.
+fn leasts_fine(table: &[u16], n: u16) -> bool
+    ensures { λ r. ⌜ r ≡ all n (leastFine n (getD (now (table .entry)) bAt 0) (orderIn (now (table .entry))) (startIn n (now (table .entry))) (leastIn n (now (table .entry)))) ⌝ }
+{
+    let b = part_count(table);
+    let mut k: u16 = 0;
+    while k < n {
+        if !least_fine(table, n, b, k) {
+            return false;
+        }
+        k += 1;
     }
     true
 }
@@ -216,7 +269,7 @@ fn parts_fine(shape: Shape, list: &[u32], table: &[u16], n: u16, d: u16) -> bool
 
 // ---- all of it
 
-// Says whether a table opens, and its starts, its order and each partition are right.
+// Says whether a table opens, and its starts, its order, its smallest rule numbers and each partition are right.
 pub(crate) fn is_laid(shape: Shape, list: &[u32], table: &[u16]) -> bool
     ensures { λ r. ⌜ r ≡ checks (listed shape (now (list .entry))) (now (table .entry)) ⌝ }
 {
@@ -228,6 +281,9 @@ pub(crate) fn is_laid(shape: Shape, list: &[u32], table: &[u16]) -> bool
         return false;
     }
     if !rules_fine(table, n) {
+        return false;
+    }
+    if !leasts_fine(table, n) {
         return false;
     }
     parts_fine(shape, list, table, n, shape.d as u16)

@@ -34,7 +34,7 @@ use Rattle.calls.proofs.Hearing as hearing
 use Rattle.calls.proofs.Hears.{hears-first}
 use Rattle.calls.proofs.Input.{pieces-whole, lines-on, lines-anew}
 
--- the program's runs, whatever they hold at first, as long as they have 16 and 36,200 places
+-- the program's runs, whatever they hold at first, as long as they have 16 and 37,200 places
 module _ (name numbers : List ℕ) (long : length name ≡ nameRoom) (many : length numbers ≡ lineRoom) where
   pub line-is : (line : List ℕ) → answerSaid (fed heardByte (heard unheard name numbers) line) ≡ answerTo line
   line-is = hearing.line-is name numbers long many

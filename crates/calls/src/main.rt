@@ -64,7 +64,7 @@ any refusal                  refused NUMBER FIRST SECOND\n\
 anything else                bad\n\
 \n\
 Words are parted by single blanks, and LF ends a line; what follows the last LF, if anything, is a line too. LIST, TABLE\n\
-and RUN are a length, at most 16500, 18500 and 1100 (r2p: 200), and then that many numbers; HEADER is eight numbers. Numbers\n\
+and RUN are a length, at most 16500, 19500 and 1100 (r2p: 200), and then that many numbers; HEADER is eight numbers. Numbers\n\
 are plain decimals without leading zeros, 0 to 4294967295, those of a table and of a choose's or layout's run to 65535.\n\
 \n\
 D is the number of fields, or that and flags, D:FFFFFFFF: eight characters 0 or 1, the first for field 0, the next for field\n\

@@ -39,12 +39,11 @@ use Rattle.sorting.specs.Build.{buildFault, builtParts, buildOf}
 use Rattle.sorting.specs.FirstFit.{parts}
 use Rattle.sorting.specs.Brought.{chooseFault, chooseOf, layFault, layOutOf}
 use Rattle.auditing.specs.Audit.{isLaid, auditOf, saysVerdict}
-use Rattle.tables.specs.Report.{sizeOf, leastRule, reportFault, reportOf, saysPart}
-use Rattle.tables.specs.Layout.{View}
+use Rattle.tables.specs.Report.{sizeOf, reportFault, reportOf, saysPart}
 use Rattle.tables.specs.Opening.{viewOf, openFault}
 use Rattle.auditing.specs.declared.audit.Verdict.the-variants as verdict
 use Rattle.tables.specs.declared.report.Part.the-variants as part
-use Rattle.lookup.specs.Lookup.{visitOf, afterVisit, better, lookupFrom, searchOf, lookupOf}
+use Rattle.lookup.specs.Lookup.{turnOf, afterVisit, better, lookupFrom, searchOf, lookupOf}
 use Rattle.lookup.specs.declared.walk.Walked.{Walked}
 use Rattle.lookup.specs.declared.walk.Walked.the-variants.{Ran, Broken}
 use Rattle.lookup.specs.declared.walk.Found.{Found}
@@ -114,23 +113,23 @@ pub report-told : (R : Rules) (T : List ℕ) (q : ℕ) → partBack (numbersOf 2
 report-told R T q =
     let v = viewOf R T in
     part-back (reportOf R T q)
-    (unless PartRefuses (reportFault R T q) (part.Is (sizeOf (v .start) q) (leastRule (rulesIn R) (v .start) (v .order) q)) (part.Refused (reportFault R T q)) tt (λ r. r))
+    (unless PartRefuses (reportFault R T q) (part.Is (sizeOf (v .start) q) (v .least q)) (part.Refused (reportFault R T q)) tt (λ r. r))
 
 -- a broken partition is refused with 6
 visited : (w : Walked) (next : Found → ℕ → Looked) → ((x : Found) (u : ℕ) → LookedRefuses (next x u)) → LookedRefuses (afterVisit w next)
 visited (Ran x u) next p = p x u
 visited Broken next p = eqb-false 6 0 refl
 
-module _ (R : Rules) (v : View) (h : List ℕ) where
-  searched : (k q best t : ℕ) → LookedRefuses (lookupFrom R v h k q best t)
+module _ (R : Rules) (h : List ℕ) (turn : ℕ → ℕ → Walked) where
+  searched : (k q best t : ℕ) → LookedRefuses (lookupFrom R h turn k q best t)
   unfolding lookupFrom
   searched zero q best t = either LookedRefuses (ltb best (rulesIn R)) (looked.Rule best t (edgeOf R h best)) (looked.Nothing t) tt tt
   searched (suc k) q best t =
-      visited (visitOf R v h q) (λ x u. lookupFrom R v h k (suc q) (better best x) (t + u)) (λ x u. searched k (suc q) (better best x) (t + u))
+      visited (turn best q) (λ x u. lookupFrom R h turn k (suc q) (better best x) (t + u)) (λ x u. searched k (suc q) (better best x) (t + u))
 
 pub lookup-told : (R : Rules) (T h : List ℕ) → lookedBack (numbersOf 4 (saysInPlace (lookupOf R T h))) ≡ lookupOf R T h
 unfolding lookupOf
 lookup-told R T h =
     let v = viewOf R T in
     looked-back (lookupOf R T h)
-    (unless LookedRefuses (openFault R T) (searchOf R v h) (looked.Refused (openFault R T)) (searched R v h (v .b) 0 (rulesIn R) 0) (λ r. r))
+    (unless LookedRefuses (openFault R T) (searchOf R v h) (looked.Refused (openFault R T)) (searched R h (turnOf R v h) (v .b) 0 (rulesIn R) 0) (λ r. r))

@@ -2,6 +2,6 @@
 -- Assumes nothing: this is a definition.
 use Prim.Native.Nat.{ℕ}
 
--- raised by each change of an answer's numbers or of a function's parameters
+-- raised by each change of an answer's numbers, of a function's parameters or of the table's length
 abbrev pub versionNow : ℕ
-versionNow = 3
+versionNow = 4

@@ -98,7 +98,7 @@ pub extern "C" fn cuy_audit(
     put_verdict(audit(Shape { d, dates }, list, table), answer)
 }
 
-// Reports on a partition of a table: answers its size and its smallest rule number, worked out by reading its places.
+// Reports on a partition of a table: answers its size and its smallest rule number, as the table stores it.
 #[no_mangle]
 pub extern "C" fn cuy_report(
     d: usize,

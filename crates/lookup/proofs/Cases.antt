@@ -1,4 +1,4 @@
--- 01, A small bench list: the marked cases B1 to B12, as one table of rows and one statement about the definitions.
+-- 01, A small bench list, with 02, W5: the marked cases B1 to B12, as one table of rows and one statement about the definitions.
 -- A row has its mark, what a definition gives, and what 01 writes; both as numbers. Of a lookup these are what the answer says in the
 -- paper's words (`saysLooked`): the refusal's number and place, then 1, the rule, the tests and 1 at an edge, or 0, the tests and 0. 01 writes
 -- no edge: by 02, W2, each of B2 to B6 is at one, 7-7, 8-8 or 0-9 being met at an end, and B7 and B8 find none.
@@ -22,12 +22,12 @@ use Rattle.lists.specs.Faults.{shapeFault}
 use Rattle.ranges.specs.Standings.{standingOf}
 use Rattle.ordering.specs.Order.{compare}
 use Rattle.sorting.specs.FirstFit.{fitOf, firstFit, parts}
-use Rattle.tables.specs.Layout.{rowOf, tableLength, orderAt, startAt, fromAt, toAt}
-use Rattle.sorting.specs.Table.{placeOf, ruleAt, startOf, runFrom, runTo, tableOf, builtTable}
+use Rattle.tables.specs.Layout.{rowOf, tableLength, orderAt, startAt, leastAt, fromAt, toAt}
+use Rattle.sorting.specs.Table.{placeOf, ruleAt, startOf, leastOf, runFrom, runTo, tableOf, builtTable}
 use Rattle.tables.specs.Opening.{opening, openFault}
 use Rattle.sorting.proofs.Cases.{bench, benchTable, empty, emptyTable}
 use Rattle.lookup.specs.Walk.{runStands, stepAt, arrivedOf, walkFrom}
-use Rattle.lookup.specs.Lookup.{visitOf, lookupFrom, lookupOf, saysLooked}
+use Rattle.lookup.specs.Lookup.{turnOf, visitOf, lookupFrom, lookupOf, saysLooked}
 use Rattle.lookup.specs.declared.lookup.Looked.the-variants.{Nothing}
 
 -- ---- a row of the table
@@ -62,10 +62,10 @@ asked x y = numbers (saysLooked (lookupOf bench benchTable (x ∷ y ∷ 1 ∷ 2 
 pub cases : List Case
 cases =
     row 1 (builtTable bench) benchTable
-    ∷ row 2 (asked 7 250) (rule 1 6)
-    ∷ row 3 (asked 7 100) (rule 0 7)
-    ∷ row 4 (asked 7 150) (rule 3 7)
-    ∷ row 5 (asked 8 5) (rule 2 6)
+    ∷ row 2 (asked 7 250) (rule 1 2)
+    ∷ row 3 (asked 7 100) (rule 0 3)
+    ∷ row 4 (asked 7 150) (rule 3 5)
+    ∷ row 5 (asked 8 5) (rule 2 3)
     ∷ row 6 (asked 9 5) (rule 4 5)
     ∷ row 7 (asked 10 0) (nothing 4)
     ∷ row 8 (asked 7 1000) (nothing 6)
@@ -78,5 +78,5 @@ cases =
 
 -- the one statement: every row of the table holds, and in the table of no rules any header at all finds none, with 0 tests (B9)
 pub cases-hold : T (hold cases) × ((h : List ℕ) → lookupOf empty emptyTable h ≡ Nothing 0)
-unfolding cases all any count least greatest tab endOf pastOf flagOf datesIn isDate spotOf sideOf rulesIn offsetOf lowOf highOf endsAt fits edgeOf shapeFault standingOf compare fitOf firstFit parts tableLength orderAt startAt fromAt toAt rowOf placeOf ruleAt startOf runFrom runTo tableOf opening openFault runStands stepAt arrivedOf walkFrom visitOf lookupFrom lookupOf prefixesOf prefixesFrom blockOf blockFits prefixFault
+unfolding cases all any count least greatest tab endOf pastOf flagOf datesIn isDate spotOf sideOf rulesIn offsetOf lowOf highOf endsAt fits edgeOf shapeFault standingOf compare fitOf firstFit parts tableLength orderAt startAt leastAt fromAt toAt rowOf placeOf ruleAt startOf leastOf runFrom runTo tableOf opening openFault runStands stepAt arrivedOf walkFrom turnOf visitOf lookupFrom lookupOf prefixesOf prefixesFrom blockOf blockFits prefixFault
 cases-hold = (tt, λ h. refl)

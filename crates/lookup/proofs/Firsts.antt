@@ -1,9 +1,10 @@
 -- The lookup in a table that keeps the promise (`sorting`, `specs/Promise.antt`) is never refused, and its match is the first match.
--- Each partition names its rule that fits (`Finds.antt`), every rule has a place in one of them, and so the smallest candidate of
--- all is the smallest rule that fits.
+-- Each partition that is visited names its rule that fits (`Finds.antt`), one that is skipped has no rule below the candidate, every rule has
+-- a place in one of them, and so the smallest candidate of all is the smallest rule that fits. The same goes for 01's search, which skips none.
 --     part-of-place            every place lies in a partition
 --     visit-finds              a partition names its rule that fits
---     search-first             all partitions in order: the first match
+--     search-first, all-first      all partitions in order: the first match, with and without skipping
+--     never-more               with skipping it makes no more tests
 --     promise-opens            such a table opens
 --     lookup-first             the lookup
 -- Assumes nothing.
@@ -14,9 +15,9 @@ use mathlib.Core.Path.{_≡_, refl, sym, ap, _∙_, subst}
 use native.Mathlib.Omega.{arith}
 use lib.Dec.{ltb}
 use borrow.Author.Tests.{ltb-true, ltb-false, eq-eqb}
-use Rattle.ranges.specs.Numbers.{least}
+use Rattle.ranges.specs.Numbers.{least, _and_}
 use Rattle.ranges.specs.Refusals.{none}
-use Rattle.ranges.proofs.Numbers.{least-is, least-none}
+use Rattle.ranges.proofs.Numbers.{never, and-right, least-is, least-none}
 use Rattle.lists.specs.Rules.{Rules, fieldsOf, rulesIn}
 use Rattle.lists.specs.FirstMatch.{fits, firstMatch}
 use Rattle.lists.proofs.Rules.{Shaped}
@@ -25,15 +26,20 @@ use Rattle.tables.specs.Layout.{View, TableFor}
 use Rattle.tables.specs.Opening.{viewOf, openFault}
 use Rattle.sorting.specs.Promise.{InPart, Promise}
 use Rattle.tables.proofs.Opened.{opening-last, open-stands}
-use Rattle.lookup.specs.Lookup.{visitOf, better, answerOf, lookupFrom, searchOf, lookupOf}
+use Rattle.lookup.specs.Lookup.{skips, turnOf, visitOf, better, answerOf, lookupFrom, searchOf, searchAll, lookupOf, testsIn}
+use Rattle.lookup.specs.Bounds.{testsOf, candidate, turnMade, refuses}
 use Rattle.lookup.specs.declared.walk.Found.{Found}
 use Rattle.lookup.specs.declared.walk.Found.the-variants.{Hit, Miss}
+use Rattle.lookup.specs.declared.walk.Walked.{Walked}
 use Rattle.lookup.specs.declared.walk.Walked.the-variants.{Ran}
+use Rattle.lookup.specs.declared.lookup.Looked.{Looked}
 use Rattle.lookup.proofs.Returned.{visit-fits, sooner-fits}
 use Rattle.lookup.proofs.Named.{Matches}
 use Rattle.lookup.proofs.Groups.{starts-within, held-first}
 use Rattle.lookup.proofs.Finds.{Finds, walk-finds}
-use Rattle.lookup.proofs.Visits.{visit-walks, from-none, from-on}
+use Rattle.lookup.proofs.Visits.{visit-walks}
+use Rattle.lookup.proofs.Turns.{turn-skipped, turn-visits, from-none, from-on}
+use Rattle.lookup.proofs.Totals.{answer-stands, sum-le, search-sum, turn-tests, picked-le}
 use Rattle.lookup.proofs.Lookups.{lookup-searches}
 
 module _ {R : Rules} {v : View} (promise : Promise R v) where
@@ -109,12 +115,48 @@ module _ {R : Rules} {v : View} (h : List ℕ) (promise : Promise R v) where
       min-le : (a c : ℕ) → min a c ≤ c
       min-le a c = omega arith
 
-  best-more : (q best : ℕ) → Best q best → (f : Finds R v h q (visitOf R v h q)) → Best (suc q) (better best (f .found))
+  -- what a turn of partition q does that leaves nothing out: it names a rule that matches, or none, and with it no rule of the partition that
+  -- fits is smaller than the candidate
+  record Takes (q best : ℕ) (w : Walked) : Type 0 where
+    found : Found
+    tests : ℕ
+    is : w ≡ Ran found tests
+    match : (i : ℕ) → found ≡ Hit i → Matches R h i
+    first : (p : ℕ) → InPart v q p → fits R h (v .order p) ≡ true → better best found ≤ v .order p
+
+  visit-takes : (q best : ℕ) → q < v .b → Takes q best (visitOf R v h q)
+  visit-takes q best lt =
+      let f = visit-finds q lt in
+      record {
+        found = f .found;
+        tests = f .tests;
+        is = f .is;
+        match = λ i is. visit-fits R v h q i (f .tests) (f .is ∙ ap (λ x. Ran x (f .tests)) is);
+        first = λ p at fit. better-hit best (v .order p) (f .found) (f .finds p at fit);
+      }
+
+  -- a partition that is skipped has no rule below the candidate
+  turn-takes : (q best : ℕ) → q < v .b → Takes q best (turnOf R v h best q)
+  turn-takes q best lt = go (skips (rulesIn R) (v .least) best q) refl
+    where
+      go : (s : Bool) → skips (rulesIn R) (v .least) best q ≡ s → Takes q best (turnOf R v h best q)
+      go true e =
+          let past : best < v .least q = ltb-true best (v .least q) (and-right (ltb best (rulesIn R)) (ltb best (v .least q)) e) in
+          record {
+            found = Miss;
+            tests = 0;
+            is = turn-skipped R v h best q e;
+            match = λ i is. never (cc);
+            first = λ p at fit. omega (arith, promise .smallest q lt .least-of p at);
+          }
+      go false e = rw (turn-visits R v h best q e) (visit-takes q best lt)
+
+  best-more : (q best : ℕ) {w : Walked} → Best q best → (f : Takes q best w) → Best (suc q) (better best (f .found))
   best-more q best named f =
       let less = better-le best (f .found) in
       record {
         at-most = omega (arith, named .at-most, less);
-        match = sooner-fits R v h best (f .found) (named .match) (λ i is. visit-fits R v h q i (f .tests) (f .is ∙ ap (λ x. Ran x (f .tests)) is));
+        match = sooner-fits R h best (f .found) (named .match) (f .match);
         first = λ p r lt in-r fit. go p r (ltb r q) refl lt in-r fit;
       }
     where
@@ -122,26 +164,48 @@ module _ {R : Rules} {v : View} (h : List ℕ) (promise : Promise R v) where
       go p r true e lt in-r fit = omega (arith, better-le best (f .found), named .first p r (ltb-true r q e) in-r fit)
       go p r false e lt in-r fit =
           let is : r ≡ q = omega (arith, ltb-false r q e) in
-          better-hit best (v .order p) (f .found) (f .finds p (subst (λ k. InPart v k p) is in-r) fit)
+          f .first p (subst (λ k. InPart v k p) is in-r) fit
 
-  -- ---- all partitions in order
-  from-first : (k q best t : ℕ) → q + k ≡ v .b → Best q best → (u : ℕ) × (lookupFrom R v h k q best t ≡ answerOf R h (firstMatch R h) u)
-  from-first zero q best t is named =
-      let at-b : q ≡ v .b = omega arith in
-      (t, from-none R v h q best t ∙ ap (λ m. answerOf R h m t) (best-first best (subst (λ k. Best k best) at-b named)))
-  from-first (suc k) q best t is named =
-      let f = visit-finds q (omega arith) in
-      let rest = from-first k (suc q) (better best (f .found)) (t + f .tests) (omega arith) (best-more q best named f) in
-      (rest .0, from-on R v h k q best t (f .found) (f .tests) (f .is) ∙ rest .1)
+  -- ---- all partitions in order, where no turn leaves anything out
+  module _ (turn : ℕ → ℕ → Walked) (takes : (q best : ℕ) → q < v .b → Takes q best (turn best q)) where
+    from-first : (k q best t : ℕ) → q + k ≡ v .b → Best q best → (u : ℕ) × (lookupFrom R h turn k q best t ≡ answerOf R h (firstMatch R h) u)
+    from-first zero q best t is named =
+        let at-b : q ≡ v .b = omega arith in
+        (t, from-none R h turn q best t ∙ ap (λ m. answerOf R h m t) (best-first best (subst (λ k. Best k best) at-b named)))
+    from-first (suc k) q best t is named =
+        let f = takes q best (omega arith) in
+        let rest = from-first k (suc q) (better best (f .found)) (t + f .tests) (omega arith) (best-more q best named f) in
+        (rest .0, from-on R h turn k q best t (f .found) (f .tests) (f .is) ∙ rest .1)
+
+    by-turns : (u : ℕ) × (lookupFrom R h turn (v .b) 0 (rulesIn R) 0 ≡ answerOf R h (firstMatch R h) u)
+    by-turns =
+        from-first (v .b) 0 (rulesIn R) 0 (omega arith)
+        record {
+          at-most = omega arith;
+          match = λ lt. absurd (omega arith);
+          first = λ p r lt. absurd (omega arith);
+        }
 
   pub search-first : (u : ℕ) × (searchOf R v h ≡ answerOf R h (firstMatch R h) u)
-  search-first =
-      from-first (v .b) 0 (rulesIn R) 0 (omega arith)
-      record {
-        at-most = omega arith;
-        match = λ lt. absurd (omega arith);
-        first = λ p r lt. absurd (omega arith);
-      }
+  search-first = by-turns (turnOf R v h) turn-takes
+
+  pub all-first : (u : ℕ) × (searchAll R v h ≡ answerOf R h (firstMatch R h) u)
+  all-first = by-turns (λ best. visitOf R v h) visit-takes
+
+  -- ---- skipping makes no more tests
+  stands : {w : Looked} → (u : ℕ) × (w ≡ answerOf R h (firstMatch R h) u) → refuses w ≡ false
+  stands (u, is) = ap refuses is ∙ answer-stands R h (firstMatch R h) u
+
+  pub never-more : testsIn (searchOf R v h) ≤ testsIn (searchAll R v h)
+  never-more =
+      let n = rulesIn R in
+      let skipping = turnOf R v h in
+      let all : ℕ → ℕ → Walked = λ best. visitOf R v h in
+      let fewer = sum-le (v .b) 0 (λ q. testsOf (turnMade n skipping q)) (λ q. testsOf (turnMade n all q)) (λ q a lt. turn-le (candidate n skipping q) q) in
+      omega (arith, search-sum R h skipping (v .b) (stands search-first), search-sum R h all (v .b) (stands all-first), fewer)
+    where
+      turn-le : (best q : ℕ) → testsOf (turnOf R v h best q) ≤ testsOf (visitOf R v h q)
+      turn-le best q = rw (turn-tests R v h best q) (picked-le (skips (rulesIn R) (v .least) best q) (testsOf (visitOf R v h q)))
 
 -- ---- the lookup
 module _ (R : Rules) (T : List ℕ) (shape : Shaped R) (sized : TableFor (rulesIn R) (fieldsOf R) T) (promise : Promise R (viewOf R T)) where

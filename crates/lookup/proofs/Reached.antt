@@ -48,7 +48,7 @@ use Rattle.sorting.proofs.Partitions.FirstFits.{free-yes, fit-is, first-fit-at}
 use Rattle.sorting.proofs.Sorted.Reading.{read-parts, table-sized}
 use Rattle.sorting.proofs.Sorted.Built.{built-keeps-promise}
 use Rattle.lookup.specs.Walk.{midOf, leaves, stepAt, walkFrom}
-use Rattle.lookup.specs.Lookup.{visitOf, answerOf, lookupFrom, searchOf, lookupOf}
+use Rattle.lookup.specs.Lookup.{turnOf, visitOf, answerOf, lookupFrom, searchOf, lookupOf}
 use Rattle.lookup.specs.Bounds.{PowerWithin, ladder}
 use Rattle.lists.specs.Headers.{zeros}
 use Rattle.lookup.specs.declared.walk.Found.the-variants.{Hit}
@@ -57,7 +57,8 @@ use Rattle.lookup.specs.declared.lookup.Looked.the-variants.{Rule}
 use Rattle.lookup.proofs.Arrivals.{arrived-yes}
 use Rattle.lookup.proofs.Steps.{trusted-stands, step-by}
 use Rattle.lookup.proofs.Walks.{walk-arrives, walk-on}
-use Rattle.lookup.proofs.Visits.{visit-walks, from-none, from-on}
+use Rattle.lookup.proofs.Visits.{visit-walks}
+use Rattle.lookup.proofs.Turns.{skips-not, turn-visits, from-none, from-on}
 use Rattle.lookup.proofs.Lookups.{lookup-searches}
 use Rattle.lookup.proofs.Firsts.{promise-opens}
 
@@ -338,9 +339,11 @@ module _ (d dates m : ℕ) (some : 1 ≤ d) (few : d ≤ 8) (rules : 1 ≤ m) (v
       let first : min n 0 ≡ 0 = omega arith in
       let count : 0 + (d + j) ≡ d + j = omega arith in
       let under : 0 < n = omega (arith, n-is) in
-      ap (λ b. lookupFrom R v zeros b 0 n 0) one
-      ∙ from-on R v zeros 0 0 n 0 (Hit 0) (d + j) (visit-ladder j power)
-      ∙ from-none R v zeros 1 (min n 0) (0 + (d + j))
+      let turn = turnOf R v zeros in
+      let visits : turn n 0 ≡ visitOf R v zeros 0 = turn-visits R v zeros n 0 (sym (skips-not n (v .least) n 0 (omega arith))) in
+      ap (λ b. lookupFrom R zeros turn b 0 n 0) one
+      ∙ from-on R zeros turn 0 0 n 0 (Hit 0) (d + j) (visits ∙ visit-ladder j power)
+      ∙ from-none R zeros turn 1 (min n 0) (0 + (d + j))
       ∙ ap (λ b. answerOf R zeros b (0 + (d + j))) first
       ∙ ap (λ t. answerOf R zeros 0 t) count
       ∙ rw (lt-ltb 0 n under, first-edge)

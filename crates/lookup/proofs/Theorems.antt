@@ -11,9 +11,10 @@
 --        none-has-no-edge                 nor has an answer that no rule fits
 --        refused-by-a-row                 it is 1, 2, 3, 5 or 6 with place 0, and never 4
 --        opening-refuses                  1, 2, 3, 5 and 6 for the opening come first, in this order
---        broken-partition-refuses         else a partition that is broken, in the paper's own conditions, refuses the whole call with 6 ..
+--        broken-partition-refuses         else a partition that is not skipped and is broken, in the paper's own conditions, refuses the whole call
+--                                         with 6 ..
 --        nothing-else-refuses             .. and nothing else does
---        refuses-6-iff                    so of a table that opens 6 is given exactly where some partition is broken, and none before it
+--        refuses-6-iff                    so of a table that opens 6 is given exactly where some partition is not skipped and broken, and none before it
 --        numbers-past-d-unread            headers that agree on the first d numbers get the same answer, edge and all
 --     2. The match is the first match.
 --        lookup-is-first-match            of a table that keeps the promise: never a refusal, and the first match
@@ -23,11 +24,13 @@
 --        built-rule-iff                   of that table: rule i exactly when i is the first rule that fits ..
 --        built-none-iff                   .. and none exactly when no rule fits
 --        built-lookup, choice-then-lookup of the table of first fit, and of any choice of partitions
+--        lay-out-then-lookup              of the table that a laying out left, for every list and run that it accepted
 --        audited-then-lookup              of every table that is audited yes, whoever wrote it: no refusal, the first match, at most d + k tests a partition
 --     3. The count is the written walk's, and small.
---        count-is-the-sum                 it is the sum of the partitions' tests
+--        count-is-the-sum                 it is the sum of the tests of the partitions that are visited
 --        partition-tests                  at most d + k in a partition of m rules, 2^k being the largest power of two within m
 --        total-tests                      so at most the sum of these
+--        skipping-is-no-worse             of a table that keeps the promise: the match and the edge of 01's search of all partitions, and never more tests
 --        size-has-k                       every partition has such a k
 --        empty-list-costs-none            of no rules: none, and no test
 --        bound-is-reached                 for every d, m and flags a list and a header reach d + k
@@ -38,8 +41,9 @@ use Prim.Native.Nat.{ℕ, suc, _+_, _-_, _≤_, _<_}
 use mathlib.Core.Bool.{Bool, true, false}
 use mathlib.Core.List.{List, []}
 use mathlib.Core.Logic.{_↔_}
-use mathlib.Core.Path.{_≡_, sym, ap, _∙_}
+use mathlib.Core.Path.{_≡_, refl, sym, ap, _∙_}
 use native.Mathlib.Omega.{arith}
+use Rattle.ranges.specs.Numbers.{pick}
 use Rattle.ranges.specs.Refusals.{none, refused, BrokenTable}
 use Rattle.ranges.specs.declared.refusal.Refusal.{Refusal}
 use Rattle.ranges.specs.declared.refusal.Count.the-variants.{Is as CountIs}
@@ -52,22 +56,23 @@ use Rattle.lists.specs.Faults.{listFault}
 use Rattle.lists.proofs.Rules.{Shaped}
 use Rattle.lists.proofs.Theorems.{First}
 use Rattle.tables.specs.Layout.{View, TableFor}
-use Rattle.sorting.specs.FirstFit.{Choice, firstFit}
+use Rattle.sorting.specs.FirstFit.{Choice, firstFit, parts}
 use Rattle.tables.specs.Opening.{viewOf, openFault}
 use Rattle.sorting.specs.Promise.{Promise}
 use Rattle.sorting.specs.Table.{tableOf, builtTable}
 use Rattle.sorting.specs.Build.{buildOf, tableAfter}
+use Rattle.sorting.specs.Brought.{layOutOf, laidAfter}
 use Rattle.lists.proofs.Sound.{list-sound, list-shaped}
 use Rattle.sorting.proofs.Sorted.Reading.{table-sized}
 use Rattle.sorting.proofs.Sorted.Kept.{choice-keeps-promise}
 use Rattle.sorting.proofs.Sorted.Built.{built-keeps-promise, list-keeps-promise}
-use Rattle.sorting.proofs.Theorems.{build-is-b-iff, built-table}
+use Rattle.sorting.proofs.Theorems.{build-is-b-iff, built-table, lay-out-is-b-iff, laid-table}
 use Rattle.auditing.specs.Audit.{auditOf}
 use Rattle.auditing.specs.declared.audit.Verdict.the-variants.{Yes}
 use Rattle.auditing.proofs.Theorems.{audit-fine, audited-promises}
 use Rattle.lookup.specs.Walk.{walkFrom}
-use Rattle.lookup.specs.Lookup.{visitOf, answerOf, lookupOf, matchIn, testsIn, edgeIn}
-use Rattle.lookup.specs.Bounds.{PowerWithin, testsOf, sumFrom, refuses, ladder}
+use Rattle.lookup.specs.Lookup.{visitOf, answerOf, searchOf, searchAll, lookupOf, matchIn, testsIn, edgeIn}
+use Rattle.lookup.specs.Bounds.{PowerWithin, testsOf, isSkipped, sumFrom, refuses, ladder}
 use Rattle.lists.specs.Headers.{zeros}
 use Rattle.lookup.specs.declared.lookup.Looked.{Looked}
 use Rattle.lookup.specs.declared.lookup.Looked.the-variants.{Rule, Nothing, Refused}
@@ -77,9 +82,9 @@ use Rattle.lookup.proofs.Unread.{Agree, lookup-same}
 use Rattle.lookup.proofs.Brokens.{BrokenPart}
 use Rattle.lookup.proofs.Refusing.{RefusedBy, refused-by, FirstBroken, lookup-broken, lookup-fine, lookup-6-iff}
 use Rattle.lookup.proofs.Lookups.{lookup-refused}
-use Rattle.lookup.proofs.Firsts.{lookup-first}
+use Rattle.lookup.proofs.Firsts.{search-first, all-first, never-more, lookup-first}
 use Rattle.lookup.proofs.Matched.{NoneFits, matched-rule-iff, matched-none-iff}
-use Rattle.lookup.proofs.Totals.{answer-tests, answer-stands, power-within, visit-tests, sum-le, lookup-sum, none-costs-none}
+use Rattle.lookup.proofs.Totals.{answer-tests, answer-stands, answer-alike, power-within, visit-tests, sum-le, picked-le, lookup-sum, none-costs-none}
 use Rattle.lookup.proofs.Reached.{ladder-sound, ladder-rules, ladder-stands, ladder-parts, ladder-reaches}
 
 -- ---- 1. every answer and every refusal is the written one
@@ -114,15 +119,18 @@ module _ (R : Rules) (T h : List ℕ) where
   opening-refuses = lookup-refused R T h
 
   module _ (opens : openFault R T .number ≡ 0) where
-    -- what breaks partition q is one of the paper's own conditions (`Brokens.antt`): its starts, or at a group that the walk reaches the rule
+    -- a partition is skipped by the stored number and the candidate of those before alone (`isSkipped`), and what is in it refuses nothing then.
+    -- What breaks partition q is one of the paper's own conditions (`Brokens.antt`): its starts, or at a group that the walk reaches the rule
     -- number or the run read at the middle place, or at field d the group's size, its rule number or the confirming comparison
-    pub broken-partition-refuses : (q : ℕ) → q < viewOf R T .b → BrokenPart R (viewOf R T) h q → lookupOf R T h ≡ Refused (refused BrokenTable)
+    pub broken-partition-refuses : (q : ℕ) → q < viewOf R T .b → isSkipped R (viewOf R T) h q ≡ false → BrokenPart R (viewOf R T) h q
+        → lookupOf R T h ≡ Refused (refused BrokenTable)
     broken-partition-refuses = lookup-broken R T h opens
 
-    pub nothing-else-refuses : ((q : ℕ) → q < viewOf R T .b → BrokenPart R (viewOf R T) h q → ⊥) → refuses (lookupOf R T h) ≡ false
+    pub nothing-else-refuses : ((q : ℕ) → q < viewOf R T .b → isSkipped R (viewOf R T) h q ≡ false → BrokenPart R (viewOf R T) h q → ⊥)
+        → refuses (lookupOf R T h) ≡ false
     nothing-else-refuses = lookup-fine R T h opens
 
-    -- so of a table that opens 6 is given exactly where some partition is broken; the first that is, is the one met
+    -- so of a table that opens 6 is given exactly where some partition is not skipped and broken; the first that is, is the one met
     pub refuses-6-iff : (lookupOf R T h ≡ Refused (refused BrokenTable)) ↔ FirstBroken R (viewOf R T) h
     refuses-6-iff = lookup-6-iff R T h opens
 
@@ -171,7 +179,14 @@ build-then-lookup R T b answered h =
     let able = build-is-b-iff R T b .0 answered .0 in
     rw (built-table R T able) (built-lookup R (able .no-fault) h)
 
--- of that table: a caller who gets a rule has the first that fits, and one who gets none knows that no rule fits; by `build-then-lookup` there is no
+-- the same of a laying out, whatever run it was handed
+pub lay-out-then-lookup : (R : Rules) (run T : List ℕ) (b : ℕ) → layOutOf R run T ≡ CountIs b → (h : List ℕ)
+    → lookupOf R (laidAfter R run T) h ≡ answerOf R h (firstMatch R h) (testsIn (lookupOf R (laidAfter R run T) h))
+lay-out-then-lookup R run T b answered h =
+    let able = lay-out-is-b-iff R run T b .0 answered .0 in
+    rw (laid-table R run T able) (choice-then-lookup R (able .fine .no-fault) run (parts run (rulesIn R)) (able .choice) h)
+
+-- of the table that a build left: a caller who gets a rule has the first that fits, and one who gets none knows that no rule fits; by `build-then-lookup` there is no
 -- third answer
 module _ (R : Rules) (T : List ℕ) (b : ℕ) (answered : buildOf R T ≡ CountIs b) (h : List ℕ) where
   abbrev found : Looked
@@ -185,9 +200,13 @@ module _ (R : Rules) (T : List ℕ) (b : ℕ) (answered : buildOf R T ≡ CountI
 
 -- ---- 3. the count is the written walk's, and small
 module _ (R : Rules) (T h : List ℕ) where
-  -- the tests that partition q costs
+  -- the tests that partition q costs where it is visited
   abbrev cost : ℕ → ℕ
   cost q = testsOf (visitOf R (viewOf R T) h q)
+
+  -- and where it is come to: none where it is skipped
+  abbrev spent : ℕ → ℕ
+  spent q = pick (isSkipped R (viewOf R T) h q) 0 (cost q)
 
   -- the rules of partition q
   abbrev size : ℕ → ℕ
@@ -198,24 +217,40 @@ module _ (R : Rules) (T h : List ℕ) where
 
   -- on every table that is not refused
   module _ (fine : refuses (lookupOf R T h) ≡ false) where
-    pub count-is-the-sum : testsIn (lookupOf R T h) ≡ sumFrom (viewOf R T .b) 0 cost
+    pub count-is-the-sum : testsIn (lookupOf R T h) ≡ sumFrom (viewOf R T .b) 0 spent
     count-is-the-sum = lookup-sum R T h fine
 
     pub total-tests : (k : ℕ → ℕ) → ((q : ℕ) → q < viewOf R T .b → PowerWithin (size q) (k q))
         → testsIn (lookupOf R T h) ≤ sumFrom (viewOf R T .b) 0 (λ q. fieldsOf R + k q)
     total-tests k power =
         let b = viewOf R T .b in
-        let each = sum-le b 0 cost (λ q. fieldsOf R + k q) (λ q a lt. partition-tests q (k q) (power q (omega arith))) in
+        let each = sum-le b 0 spent (λ q. fieldsOf R + k q) (λ q a lt. omega (arith, picked-le (isSkipped R (viewOf R T) h q) (cost q), partition-tests q (k q) (power q (omega arith)))) in
         omega (arith, count-is-the-sum)
 
   pub empty-list-costs-none : rulesIn R ≡ 0 → openFault R T .number ≡ 0 → lookupOf R T h ≡ Nothing 0
   empty-list-costs-none = none-costs-none R T h
 
+-- skipping alters neither the match nor its edge, and makes no test more: v is any view that keeps the promise
+pub record NoWorse (R : Rules) (v : View) (h : List ℕ) : Type 0 where
+  pub same-match : matchIn (searchOf R v h) ≡ matchIn (searchAll R v h)
+  pub same-edge : edgeIn (searchOf R v h) ≡ edgeIn (searchAll R v h)
+  pub never-more-tests : testsIn (searchOf R v h) ≤ testsIn (searchAll R v h)
+
+pub skipping-is-no-worse : (R : Rules) (v : View) → Promise R v → (h : List ℕ) → NoWorse R v h
+skipping-is-no-worse R v promise h =
+    let one = search-first h promise in
+    let other = all-first h promise in
+    record {
+      same-match = ap matchIn (one .1) ∙ answer-alike R h (firstMatch R h) (one .0) (other .0) matchIn refl refl ∙ sym (ap matchIn (other .1));
+      same-edge = ap edgeIn (one .1) ∙ answer-alike R h (firstMatch R h) (one .0) (other .0) edgeIn refl refl ∙ sym (ap edgeIn (other .1));
+      never-more-tests = never-more h promise;
+    }
+
 -- of a table that is audited yes, whoever wrote it
 pub record Served (R : Rules) (T h : List ℕ) : Type 0 where
   pub never-refused : refuses (lookupOf R T h) ≡ false
   pub first-match : lookupOf R T h ≡ answerOf R h (firstMatch R h) (testsIn (lookupOf R T h))
-  pub the-sum : testsIn (lookupOf R T h) ≡ sumFrom (viewOf R T .b) 0 (cost R T h)
+  pub the-sum : testsIn (lookupOf R T h) ≡ sumFrom (viewOf R T .b) 0 (spent R T h)
   pub few-tests : (q k : ℕ) → PowerWithin (size R T h q) k → cost R T h q ≤ fieldsOf R + k
 
 pub audited-then-lookup : (R : Rules) (T : List ℕ) → auditOf R T ≡ Yes → (h : List ℕ) → Served R T h

@@ -1,9 +1,12 @@
--- The count of a lookup that is not refused is the sum of the tests of its partitions, each at most d + k for a partition of m rules,
--- 2^k being the largest power of two within m.
+-- The count of a lookup that is not refused is the sum of the tests of the partitions that it visits, each at most d + k for a partition of
+-- m rules, 2^k being the largest power of two within m.
 --     power-within               every number from 1 on has one
 --     visit-tests                a partition's tests
 --     answer-tests, answer-stands      an answer's tests; it is no refusal
---     sum-le                     a sum of smaller summands
+--     answer-alike                     what is read off it without its tests
+--     sum-le, sum-same           a sum of smaller summands; of the same
+--     search-sum                 the count of a search is the sum of its turns' tests, whatever a turn is
+--     turn-tests, picked-le      those of a turn: none where the partition is skipped
 --     lookup-sum                 the count is the sum
 --     none-costs-none            an empty list costs none
 -- Assumes nothing.
@@ -22,14 +25,16 @@ use Rattle.lists.specs.Edges.{edgeOf}
 use Rattle.tables.specs.Layout.{View}
 use Rattle.tables.specs.Opening.{viewOf, openFault}
 use Rattle.tables.proofs.Opened.{opened}
-use Rattle.lookup.specs.Lookup.{visitOf, better, afterVisit, answerOf, lookupFrom, searchOf, lookupOf, testsIn}
-use Rattle.lookup.specs.Bounds.{PowerWithin, testsOf, sumFrom, refuses}
+use Rattle.lookup.specs.Lookup.{skips, turnOf, visitOf, answerOf, lookupFrom, searchOf, lookupOf, testsIn}
+use Rattle.lookup.specs.Bounds.{PowerWithin, testsOf, candidate, turnMade, isSkipped, sumFrom, refuses}
+use Rattle.lookup.specs.declared.walk.Found.the-variants.{Miss}
 use Rattle.lookup.specs.declared.walk.Walked.{Walked}
 use Rattle.lookup.specs.declared.walk.Walked.the-variants.{Ran, Broken}
 use Rattle.lookup.specs.declared.lookup.Looked.{Looked}
 use Rattle.lookup.specs.declared.lookup.Looked.the-variants.{Rule, Nothing, Refused}
 use Rattle.lookup.proofs.Counts.{walk-few}
-use Rattle.lookup.proofs.Visits.{visited-walks, from-none}
+use Rattle.lookup.proofs.Visits.{visited-walks}
+use Rattle.lookup.proofs.Turns.{onward, from-none, made-broken, made-on}
 use Rattle.lookup.proofs.Lookups.{lookup-searches}
 
 -- ---- the largest power of two within a number
@@ -66,6 +71,11 @@ sum-le (suc k) q g f h =
     let rest = sum-le k (suc q) g f (λ j a b. h j (omega arith) (omega arith)) in
     omega arith
 
+pub sum-same : (k q : ℕ) (g f : ℕ → ℕ) → ((j : ℕ) → g j ≡ f j) → sumFrom k q g ≡ sumFrom k q f
+unfolding sumFrom
+sum-same zero q g f h = refl
+sum-same (suc k) q g f h = rw (h q, sum-same k (suc q) g f h)
+
 -- ---- the count
 -- what holds of a rule and of none holds of an answer
 module _ (R : Rules) (h : List ℕ) (best t : ℕ) where
@@ -82,21 +92,51 @@ module _ (R : Rules) (h : List ℕ) (best t : ℕ) where
   pub answer-stands : refuses (answerOf R h best t) ≡ false
   answer-stands = answered (λ x. refuses x ≡ false) refl refl
 
-module _ (R : Rules) (v : View) (h : List ℕ) where
-  -- what each visit adds
-  abbrev added : ℕ → ℕ
-  added q = testsOf (visitOf R v h q)
+-- what is read off a rule and off none without their tests is read off an answer without them
+pub answer-alike : (R : Rules) (h : List ℕ) (best t u : ℕ) {A : Type 0} (f : Looked → A) → f (Rule best t (edgeOf R h best)) ≡ f (Rule best u (edgeOf R h best))
+    → f (Nothing t) ≡ f (Nothing u) → f (answerOf R h best t) ≡ f (answerOf R h best u)
+answer-alike R h best t u f rule nothing = go (ltb best (rulesIn R))
+  where
+    go : (p : Bool) → f (pick p (Rule best t (edgeOf R h best)) (Nothing t)) ≡ f (pick p (Rule best u (edgeOf R h best)) (Nothing u))
+    go true = rule
+    go false = nothing
 
-  from-sum : (k q best t : ℕ) → refuses (lookupFrom R v h k q best t) ≡ false → testsIn (lookupFrom R v h k q best t) ≡ t + sumFrom k q added
-  unfolding lookupFrom sumFrom
-  from-sum zero q best t fine = omega (arith, answer-tests R h best t)
-  from-sum (suc k) q best t fine = go (visitOf R v h q) (from-sum k) fine
+-- ---- the count is the sum, whatever a turn is
+module _ (R : Rules) (h : List ℕ) (turn : ℕ → ℕ → Walked) where
+  -- what each turn adds
+  abbrev added : ℕ → ℕ
+  added q = testsOf (turnMade (rulesIn R) turn q)
+
+  from-sum : (k q t : ℕ) → refuses (onward R h turn k q t) ≡ false → testsIn (onward R h turn k q t) ≡ t + sumFrom k q added
+  unfolding sumFrom
+  from-sum zero q t fine = omega (arith, ap testsIn (from-none R h turn q (candidate (rulesIn R) turn q) t), answer-tests R h (candidate (rulesIn R) turn q) t)
+  from-sum (suc k) q t fine = go (turnMade (rulesIn R) turn q) refl (from-sum k)
     where
-      go : (w : Walked) → ((q best t : ℕ) → refuses (lookupFrom R v h k q best t) ≡ false → testsIn (lookupFrom R v h k q best t) ≡ t + sumFrom k q added)
-          → refuses (afterVisit w (λ x u. lookupFrom R v h k (suc q) (better best x) (t + u))) ≡ false
-          → testsIn (afterVisit w (λ x u. lookupFrom R v h k (suc q) (better best x) (t + u))) ≡ t + (testsOf w + sumFrom k (suc q) added)
-      go Broken rest fine = never (cc)
-      go (Ran x u) rest fine = omega (arith, rest (suc q) (better best x) (t + u) fine)
+      go : (w : Walked) → turnMade (rulesIn R) turn q ≡ w → ((q t : ℕ) → refuses (onward R h turn k q t) ≡ false → testsIn (onward R h turn k q t) ≡ t + sumFrom k q added)
+          → testsIn (onward R h turn (suc k) q t) ≡ t + (testsOf w + sumFrom k (suc q) added)
+      go Broken is rest = let no = sym (ap refuses (made-broken R h turn k q t is)) ∙ fine in never (cc)
+      go (Ran x u) is rest =
+          let on = made-on R h turn k q t x u is in
+          omega (arith, ap testsIn on, rest (suc q) (t + u) (sym (ap refuses on) ∙ fine))
+
+  pub search-sum : (b : ℕ) → refuses (lookupFrom R h turn b 0 (rulesIn R) 0) ≡ false → testsIn (lookupFrom R h turn b 0 (rulesIn R) 0) ≡ sumFrom b 0 added
+  unfolding candidate
+  search-sum b fine = omega (arith, from-sum b 0 0 fine)
+
+-- what a turn adds: nothing where the partition is skipped
+pub turn-tests : (R : Rules) (v : View) (h : List ℕ) (best q : ℕ)
+    → testsOf (turnOf R v h best q) ≡ pick (skips (rulesIn R) (v .least) best q) 0 (testsOf (visitOf R v h q))
+unfolding turnOf
+turn-tests R v h best q = go (skips (rulesIn R) (v .least) best q)
+  where
+    go : (s : Bool) → testsOf (pick s (Ran Miss 0) (visitOf R v h q)) ≡ pick s 0 (testsOf (visitOf R v h q))
+    go true = refl
+    go false = refl
+
+-- and never more than a visit
+pub picked-le : (s : Bool) (t : ℕ) → pick s 0 t ≤ t
+picked-le true t = omega arith
+picked-le false t = omega arith
 
 module _ (R : Rules) (T h : List ℕ) where
   -- a lookup that is not refused opens
@@ -109,18 +149,18 @@ module _ (R : Rules) (T h : List ℕ) where
       go false e fine = never (cc)
 
   pub lookup-sum : refuses (lookupOf R T h) ≡ false
-      → testsIn (lookupOf R T h) ≡ sumFrom (viewOf R T .b) 0 (λ q. testsOf (visitOf R (viewOf R T) h q))
+      → testsIn (lookupOf R T h) ≡ sumFrom (viewOf R T .b) 0 (λ q. pick (isSkipped R (viewOf R T) h q) 0 (testsOf (visitOf R (viewOf R T) h q)))
   lookup-sum fine =
       let search = lookup-searches R T h (fine-opens fine) in
       let v = viewOf R T in
-      ap testsIn search ∙ from-sum R v h (v .b) 0 (rulesIn R) 0 (ap refuses (sym search) ∙ fine) ∙ add-none (sumFrom (v .b) 0 (added R v h))
-    where
-      add-none : (n : ℕ) → 0 + n ≡ n
-      add-none n = omega arith
+      ap testsIn search
+      ∙ search-sum R h (turnOf R v h) (v .b) (ap refuses (sym search) ∙ fine)
+      ∙ sum-same (v .b) 0 (λ q. testsOf (turnMade (rulesIn R) (turnOf R v h) q)) (λ q. pick (isSkipped R v h q) 0 (testsOf (visitOf R v h q)))
+      (λ q. turn-tests R v h (candidate (rulesIn R) (turnOf R v h) q) q)
 
   pub none-costs-none : rulesIn R ≡ 0 → openFault R T .number ≡ 0 → lookupOf R T h ≡ Nothing 0
   none-costs-none none z =
       let few = opened R T z .few-parts in
       let no-parts : viewOf R T .b ≡ 0 = omega arith in
-      lookup-searches R T h z ∙ ap (λ b. lookupFrom R (viewOf R T) h b 0 (rulesIn R) 0) no-parts ∙ from-none R (viewOf R T) h 0 (rulesIn R) 0
+      lookup-searches R T h z ∙ ap (λ b. lookupFrom R h (turnOf R (viewOf R T) h) b 0 (rulesIn R) 0) no-parts ∙ from-none R h (turnOf R (viewOf R T) h) 0 (rulesIn R) 0
       ∙ rw (le-ltb (rulesIn R) (rulesIn R) (omega arith))

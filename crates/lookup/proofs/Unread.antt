@@ -1,8 +1,8 @@
 -- Only the first d numbers of a header are read: two headers that agree on them get the same answer.
 -- Every test reads the number of a field below d, and the confirming comparison and the edge read those of all d fields; so step by step
 -- the two walks are one.
---     step-same, arrived-same, walk-same, visit-same, from-same      step by step
---     lookup-same                                                    the lookup
+--     step-same, arrived-same, walk-same, visit-same, turn-same, from-same      step by step
+--     lookup-same                                                               the lookup
 -- Assumes nothing.
 use Prim.Native.Nat.{ℕ, zero, suc, _+_, _<_}
 use mathlib.Core.Bool.{Bool, true, false}
@@ -18,7 +18,7 @@ use Rattle.lists.proofs.Edges.{edge-same}
 use Rattle.tables.specs.Layout.{View}
 use Rattle.tables.specs.Opening.{viewOf}
 use Rattle.lookup.specs.Walk.{stepAt, stepOf, afterStep, arrivedOf, walkFrom}
-use Rattle.lookup.specs.Lookup.{visitOf, better, afterVisit, lookupFrom, lookupOf}
+use Rattle.lookup.specs.Lookup.{turnOf, visitOf, better, afterVisit, lookupFrom, lookupOf}
 use Rattle.lookup.specs.declared.walk.Found.the-variants.{Miss}
 use Rattle.lookup.specs.declared.walk.Walked.{Walked}
 use Rattle.lookup.specs.declared.walk.Walked.the-variants.{Ran, Broken}
@@ -55,17 +55,25 @@ module _ (R : Rules) (v : View) (h h′ : List ℕ) (agree : Agree (fieldsOf R) 
   unfolding visitOf
   visit-same q = rw (walk-same (suc (rulesIn R + fieldsOf R)) (v .start q) (v .start (suc q)) 0 0)
 
-  from-same : (k q best t : ℕ) → lookupFrom R v h k q best t ≡ lookupFrom R v h′ k q best t
+  turn-same : (best q : ℕ) → turnOf R v h best q ≡ turnOf R v h′ best q
+  unfolding turnOf
+  turn-same best q = rw (visit-same q)
+
+-- all partitions in order, where the turns are the same
+module _ (R : Rules) (h h′ : List ℕ) (agree : Agree (fieldsOf R) h h′) (turn turn′ : ℕ → ℕ → Walked) (same : (best q : ℕ) → turn best q ≡ turn′ best q) where
+  from-same : (k q best t : ℕ) → lookupFrom R h turn k q best t ≡ lookupFrom R h′ turn′ k q best t
   unfolding lookupFrom
   from-same zero q best t = rw (edge-same R h h′ (agree .same) best)
-  from-same (suc k) q best t = go (visitOf R v h q) (sym (visit-same q)) (from-same k)
+  from-same (suc k) q best t = go (turn best q) (sym (same best q)) (from-same k)
     where
-      go : (w : Walked) → visitOf R v h′ q ≡ w → ((q best t : ℕ) → lookupFrom R v h k q best t ≡ lookupFrom R v h′ k q best t)
-          → afterVisit w (λ x u. lookupFrom R v h k (suc q) (better best x) (t + u))
-          ≡ afterVisit (visitOf R v h′ q) (λ x u. lookupFrom R v h′ k (suc q) (better best x) (t + u))
+      go : (w : Walked) → turn′ best q ≡ w → ((q best t : ℕ) → lookupFrom R h turn k q best t ≡ lookupFrom R h′ turn′ k q best t)
+          → afterVisit w (λ x u. lookupFrom R h turn k (suc q) (better best x) (t + u))
+          ≡ afterVisit (turn′ best q) (λ x u. lookupFrom R h′ turn′ k (suc q) (better best x) (t + u))
       go Broken is rest = rw is
       go (Ran x u) is rest = rw (is, rest (suc q) (better best x) (t + u))
 
 pub lookup-same : (R : Rules) (T h h′ : List ℕ) → Agree (fieldsOf R) h h′ → lookupOf R T h ≡ lookupOf R T h′
 unfolding lookupOf
-lookup-same R T h h′ agree = rw (from-same R (viewOf R T) h h′ agree (viewOf R T .b) 0 (rulesIn R) 0)
+lookup-same R T h h′ agree =
+    let v = viewOf R T in
+    rw (from-same R h h′ agree (turnOf R v h) (turnOf R v h′) (turn-same R v h h′ agree) (v .b) 0 (rulesIn R) 0)

@@ -1,5 +1,6 @@
 -- What the walk reads of a list and a table that the opening let through (`specs/Lent.antt`) lies within them.
 --     few-rules, few-fields                at most 1,024 rules of at most eight fields
+--     start-read, least-read               a partition's start and smallest rule number
 --     order-read, from-read, to-read       a place's row
 --     field-read                           a rule's range in a field
 -- Assumes nothing.
@@ -11,8 +12,8 @@ use Rattle.lists.specs.Limits.{mostFields, mostRules}
 use Rattle.lists.specs.Rules.{Rules, fieldsOf, rulesIn}
 use Rattle.lists.specs.Asked.{HasField}
 use Rattle.lists.proofs.Rules.{has-rule, has-field}
-use Rattle.tables.specs.Layout.{orderAt, fromAt, toAt}
-use Rattle.tables.proofs.Offsets.{order-inside, from-inside, to-inside}
+use Rattle.tables.specs.Layout.{orderAt, startAt, leastAt, fromAt, toAt}
+use Rattle.tables.proofs.Offsets.{order-inside, start-inside, least-inside, from-inside, to-inside}
 use Rattle.lookup.specs.Lent.{Ready}
 
 module _ {R : Rules} {n : ℕ} {T : List ℕ} (lent : Ready R n T) where
@@ -21,6 +22,12 @@ module _ {R : Rules} {n : ℕ} {T : List ℕ} (lent : Ready R n T) where
 
   pub few-fields : fieldsOf R ≤ mostFields
   few-fields = lent .shape-stands .few-fields
+
+  pub start-read : (q : ℕ) → q ≤ n → startAt n q < length T
+  start-read q le = omega (arith, start-inside n (fieldsOf R) q le, lent .sized .long)
+
+  pub least-read : (q : ℕ) → q < n → leastAt n q < length T
+  least-read q lt = omega (arith, least-inside n (fieldsOf R) q lt, lent .sized .long)
 
   pub order-read : (p : ℕ) → p < n → orderAt p < length T
   order-read p lt = omega (arith, order-inside n (fieldsOf R) p lt, lent .sized .long)

@@ -1,11 +1,11 @@
 -- 01, The walk and Refusal numbers: a partition visited, all of them in order, and what a lookup answers; 02, W2: whether the rule that wins
--- has a field at an end of its range.
+-- has a field at an end of its range; 02, W5: a partition whose stored number is greater than the candidate is skipped.
 -- Assumes nothing: these are definitions.
 use Prim.Native.Nat.{ℕ, zero, suc, _+_, min}
 use mathlib.Core.Bool.{Bool, false}
 use mathlib.Core.List.{List, [], _∷_}
 use lib.Dec.{ltb}
-use Rattle.ranges.specs.Numbers.{pick, bit}
+use Rattle.ranges.specs.Numbers.{pick, bit, _and_}
 use Rattle.ranges.specs.Refusals.{none, refused, stands, Said, saidOf, BrokenTable}
 use Rattle.lists.specs.Rules.{Rules, fieldsOf, rulesIn}
 use Rattle.lists.specs.Edges.{edgeOf}
@@ -27,6 +27,14 @@ visitOf R v h q =
     (walkFrom R v h (suc (rulesIn R + fieldsOf R)) (v .start q) (v .start (suc q)) 0 0)
     Broken
 
+-- partition q is skipped: there is a candidate, and the number that is stored for q is greater
+abbrev pub skips : ℕ → (ℕ → ℕ) → ℕ → ℕ → Bool
+skips n least best q = ltb best n and ltb best (least q)
+
+-- the turn of partition q, with the smallest candidate so far: where it is skipped a miss without a test, else it is visited
+unfoldable pub turnOf : Rules → View → List ℕ → ℕ → ℕ → Walked
+turnOf R v h best q = pick (skips (rulesIn R) (v .least) best q) (Ran Miss 0) (visitOf R v h q)
+
 -- the smaller candidate, where n stands for none
 abbrev pub better : ℕ → Found → ℕ
 better best Miss = best
@@ -41,14 +49,18 @@ afterVisit Broken next = Refused (refused BrokenTable)
 abbrev pub answerOf : Rules → List ℕ → ℕ → ℕ → Looked
 answerOf R h best t = pick (ltb best (rulesIn R)) (Rule best t (edgeOf R h best)) (Nothing t)
 
--- the k partitions from q on, with the smallest candidate and the tests of those before
-unfoldable pub lookupFrom : Rules → View → List ℕ → ℕ → ℕ → ℕ → ℕ → Looked
-lookupFrom R v h zero q best t = answerOf R h best t
-lookupFrom R v h (suc k) q best t = afterVisit (visitOf R v h q) (λ x u. lookupFrom R v h k (suc q) (better best x) (t + u))
+-- the k partitions from q on, with the smallest candidate and the tests of those before; `turn best q` is what the turn of partition q is
+unfoldable pub lookupFrom : Rules → List ℕ → (ℕ → ℕ → Walked) → ℕ → ℕ → ℕ → ℕ → Looked
+lookupFrom R h turn zero q best t = answerOf R h best t
+lookupFrom R h turn (suc k) q best t = afterVisit (turn best q) (λ x u. lookupFrom R h turn k (suc q) (better best x) (t + u))
 
 -- all b partitions in order
 abbrev pub searchOf : Rules → View → List ℕ → Looked
-searchOf R v h = lookupFrom R v h (v .b) 0 (rulesIn R) 0
+searchOf R v h = lookupFrom R h (turnOf R v h) (v .b) 0 (rulesIn R) 0
+
+-- 01's search, which skips none: what the other is held against
+abbrev pub searchAll : Rules → View → List ℕ → Looked
+searchAll R v h = lookupFrom R h (λ best. visitOf R v h) (v .b) 0 (rulesIn R) 0
 
 -- the lookup: 1, 2, 3, 5 and 6 for the opening, then all partitions
 unfoldable pub lookupOf : Rules → List ℕ → List ℕ → Looked

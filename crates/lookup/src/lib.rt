@@ -8,6 +8,10 @@
 // made; or a refusal, 1, 2, 3, 5 or 6. It never gives 4, since it does not read the whole list. With a rule it says whether
 // one of its fields is at an end of its range (02, W2): of the winner alone, after the last partition.
 //
+// Which partitions. They are come to in order. Once there is a candidate, a partition whose stored number, its smallest rule, is
+// greater is skipped (02, W5): none of its rules could win, and nothing of it is tested, not even its starts. Partitions behind it may
+// store a smaller number, so the search goes on; a wrong stored number may so hide a better rule, and a rule returned still fits.
+//
 // The walk. A partition's places ascend, so that one test at a middle place rules out a part of them. The walk has a group
 // of places, at first the whole partition, and a field, at first 0. It tests the header's number in this field against the
 // rule at the middle of the group. Below: nothing from the middle's run on can fit. Above: nothing before the run's end can.

@@ -10,7 +10,7 @@ pub const BAD_LENGTH: u32 = 2;
 pub const TOO_MANY_RULES: u32 = 3;
 // Some low > high; of a date, some low ≥ high (02, W8).
 pub const LOW_ABOVE_HIGH: u32 = 4;
-// The table's length is not exactly 4 + 2n + 2nd.
+// The table's length is not exactly 4 + 3n + 2nd.
 pub const BAD_TABLE_LENGTH: u32 = 5;
 // A broken table.
 pub const BROKEN_TABLE: u32 = 6;

@@ -1,4 +1,4 @@
--- 01, A small bench list: the table of the bench list (B1) and of the empty list (B9), worked out from the definitions; and both
+-- 01, A small bench list, with 02, W5: the table of the bench list (B1) and of the empty list (B9), worked out from the definitions; and both
 -- keep the promise, which is so not empty.
 --     b1, b9                          the tables
 --     b1-keeps-promise, b9-keeps-promise
@@ -13,7 +13,7 @@ use Rattle.lists.specs.Faults.{shapeFault, badRule, endsFault, listFault}
 use Rattle.ranges.specs.Standings.{standingOf}
 use Rattle.ordering.specs.Order.{compare}
 use Rattle.sorting.specs.FirstFit.{fitOf, firstFit, parts}
-use Rattle.sorting.specs.Table.{placeOf, ruleAt, startOf, runFrom, runTo, tableOf, builtTable}
+use Rattle.sorting.specs.Table.{placeOf, ruleAt, startOf, leastOf, runFrom, runTo, tableOf, builtTable}
 use Rattle.tables.specs.Opening.{viewOf}
 use Rattle.sorting.specs.Promise.{Promise}
 use Rattle.sorting.proofs.Sorted.Built.{list-keeps-promise}
@@ -24,12 +24,13 @@ bench =
     listed (shapeOf 2)
     (7 ∷ 7 ∷ 100 ∷ 100 ∷ 7 ∷ 7 ∷ 200 ∷ 299 ∷ 8 ∷ 8 ∷ 0 ∷ 999 ∷ 7 ∷ 7 ∷ 0 ∷ 999 ∷ 0 ∷ 9 ∷ 0 ∷ 999 ∷ [])
 
--- its whole table, 34 numbers, with a line where the paper has a bar
+-- its whole table, 39 numbers, with a line where the paper has a bar
 abbrev pub benchTable : List ℕ
 benchTable =
     (5 ∷ 2 ∷ 3 ∷ [])
     ++ (0 ∷ 1 ∷ 2 ∷ 3 ∷ 4 ∷ [])
     ++ (0 ∷ 3 ∷ 4 ∷ 5 ∷ 0 ∷ 0 ∷ [])
+    ++ (0 ∷ 3 ∷ 4 ∷ 0 ∷ 0 ∷ [])
     ++ (0 ∷ 0 ∷ 0 ∷ 1 ∷ 2 ∷ 2 ∷ 3 ∷ 3 ∷ 4 ∷ 4 ∷ [])
     ++ (2 ∷ 1 ∷ 2 ∷ 2 ∷ 3 ∷ 3 ∷ 4 ∷ 4 ∷ 5 ∷ 5 ∷ [])
 
@@ -49,7 +50,7 @@ unfolding rulesIn firstFit fitOf all least tab compare standingOf endOf pastOf f
 bench-choice = refl
 
 bench-table : tableOf bench benchChoice ≡ benchTable
-unfolding tableOf rulesIn parts ruleAt placeOf startOf runFrom runTo count least greatest tab compare standingOf endOf pastOf flagOf datesIn isDate lowOf highOf endsAt offsetOf
+unfolding tableOf rulesIn parts ruleAt placeOf startOf leastOf runFrom runTo count least greatest tab compare standingOf endOf pastOf flagOf datesIn isDate lowOf highOf endsAt offsetOf
 bench-table = refl
 
 -- ---- the tables

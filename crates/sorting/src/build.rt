@@ -1,6 +1,7 @@
 // The build of a table, with its refusals.
 use crate::choose::first_fit;
-use crate::lay_out::write_laid;
+use crate::lay_out::sort_out;
+use crate::lay_out::write_table;
 use lists::check::list_fault;
 use lists::shape::MOST_RULES;
 use lists::shape::Shape;
@@ -31,15 +32,19 @@ pub fn build_fault(shape: Shape, list: &[u32], table: &[u16]) -> Refusal
     refuse(0)
 }
 
-// Chooses partitions by first fit and lays the table out with them: writes every number of the table for a list and a table that are not refused, and returns how many partitions there are.
+// Chooses partitions by first fit and writes every number of the table with them, for a list and a table that are not refused; returns
+// how many partitions there are.
 fn write_built(shape: Shape, list: &[u32], table: &mut [u16]) -> usize
     requires { ⌜ Buildable (listed shape (now list)) (now table) ⌝ }
     ensures { λ r. ⌜ (r ≡ builtParts (listed shape (now (list .entry)))) × (now (table .exit) ≡ builtTable (listed shape (now (list .entry)))) ⌝ }
 {
     let n = rules_in(shape, list);
     let mut run = [0u16; MOST_RULES];
-    first_fit(shape, list, &mut run[..n]);
-    write_laid(shape, list, &run[..n], table) as usize
+    let mut order = [0u16; MOST_RULES];
+    let b = first_fit(shape, list, &mut run[..n]);
+    sort_out(shape, list, &run[..n], &mut order[..n]);
+    write_table(shape, list, &run[..n], b, &order[..n], table);
+    b as usize
 }
 
 // Builds the table of a list: writes every number of it and gives b, the number of partitions; or gives the first of the

@@ -12,6 +12,9 @@
 // Ranks (`lay_out.rt`). The place of a rule is how many rules stand before it: those of lower partitions, and those of
 // its own that come before it. Only rules of one partition are compared. Each rule is written at its place.
 //
+// The smallest rule of each partition (02, W5; `lay_out.rt`). From the last rule to the first, each is noted for its partition, so that
+// a partition's first rule stays; what no rule is noted for, past the last partition, stays zero.
+//
 // Runs by neighbours (`lay_out.rt`). What the rules at places p - 1 and p have in common, counted in leading fields and
 // none in different partitions, says for every field at once whether p's run begins with p. So one pass from the first
 // place gives all run-froms, each row of fields by the row before, and one pass from the last place all run-tos.

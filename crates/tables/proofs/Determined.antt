@@ -10,6 +10,8 @@ use Rattle.tables.proofs.layout.order_at.Kinds as order-at-kinds
 use Rattle.tables.proofs.layout.order_at.Reads as order-at
 use Rattle.tables.proofs.layout.start_at.Kinds as start-at-kinds
 use Rattle.tables.proofs.layout.start_at.Reads as start-at
+use Rattle.tables.proofs.layout.least_at.Kinds as least-at-kinds
+use Rattle.tables.proofs.layout.least_at.Reads as least-at
 use Rattle.tables.proofs.layout.from_at.Kinds as from-at-kinds
 use Rattle.tables.proofs.layout.from_at.Reads as from-at
 use Rattle.tables.proofs.layout.to_at.Kinds as to-at-kinds
@@ -22,6 +24,8 @@ use Rattle.tables.proofs.read.start_of.Kinds as start-of-kinds
 use Rattle.tables.proofs.read.start_of.Reads as start-of
 use Rattle.tables.proofs.read.end_of.Kinds as end-of-kinds
 use Rattle.tables.proofs.read.end_of.Reads as end-of
+use Rattle.tables.proofs.read.least_of.Kinds as least-of-kinds
+use Rattle.tables.proofs.read.least_of.Reads as least-of
 use Rattle.tables.proofs.read.run_from.Kinds as run-from-kinds
 use Rattle.tables.proofs.read.run_from.Reads as run-from
 use Rattle.tables.proofs.read.run_to.Kinds as run-to-kinds
@@ -42,6 +46,9 @@ order-at-one κs a x y e g p q = p ∙ sym q
 pub start-at-one : OneAnswer 0 start-at-kinds.ps start-at-kinds.r start-at.Learnt
 start-at-one κs a x y e g p q = p ∙ sym q
 
+pub least-at-one : OneAnswer 0 least-at-kinds.ps least-at-kinds.r least-at.Learnt
+least-at-one κs a x y e g p q = p ∙ sym q
+
 pub from-at-one : OneAnswer 0 from-at-kinds.ps from-at-kinds.r from-at.Learnt
 from-at-one κs a x y e g p q = p ∙ sym q
 
@@ -59,6 +66,9 @@ start-of-one κs a x y e g p q = p ∙ sym q
 
 pub end-of-one : OneAnswer 1 end-of-kinds.ps end-of-kinds.r end-of.Learnt
 end-of-one κs a x y e g p q = p ∙ sym q
+
+pub least-of-one : OneAnswer 1 least-of-kinds.ps least-of-kinds.r least-of.Learnt
+least-of-one κs a x y e g p q = p ∙ sym q
 
 pub run-from-one : OneAnswer 1 run-from-kinds.ps run-from-kinds.r run-from.Learnt
 run-from-one κs a x y e g p q = p ∙ sym q

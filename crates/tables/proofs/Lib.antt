@@ -3,8 +3,7 @@
 -- SameTable: two tables that are read alike are one.
 -- Readers: numbers of a table as the code reads them.
 -- Opened: which refusal an opening meets, and what a table is that opens.
--- Minimum: the smallest of several numbers.
--- PartPlaces: the starts and places of a partition, as the code reads them.
+-- PartPlaces: the starts of a partition, as the code reads them.
 -- Reporting: the refusals and the answer of a report.
 -- Answers: what a report's answer says tells it apart from every other.
 -- Determined: every contract allows one result alone.
@@ -12,7 +11,6 @@ pub mod Offsets
 pub mod SameTable
 pub mod Readers
 pub mod Opened
-pub mod Minimum
 pub mod PartPlaces
 pub mod Reporting
 pub mod Answers

@@ -1,13 +1,13 @@
 -- Laws of the working table's layout (`specs/Layout.antt`): each part begins where the one before it ends, and lies within a table of
 -- the right length. Proofs of every crate cite these; only this file unfolds an offset.
---     order-next, start-next, start-suc, from-next, to-next          one place, one partition, one row and field further
---     head-ends, order-ends, starts-end, froms-end, tos-end      each part begins where the one before it ends, and the last ends the table
+--     order-next, start-next, start-suc, least-next, from-next, to-next          one place, one partition, one row and field further
+--     head-ends, order-ends, starts-end, leasts-end, froms-end, tos-end      each part begins where the one before it ends, and the last ends the table
 --     row-first, row-in, row-place, row-field             the first number of a row; one number of all rows, with its place and field
 --     row-back, row-split                                 back from a number of all rows to its place and field
---     opening-inside, order-inside, start-inside, from-inside, to-inside      every number lies within the table
+--     opening-inside, order-inside, start-inside, least-inside, from-inside, to-inside      every number lies within the table
 --     starts-fit, start-within, froms-fit, tos-fit        so do the parts
 --     from-row-at, to-row-at                              where a row begins
---     row-few, start-few, from-few                        an offset of numbers of 16 bits is far below a word
+--     row-few, start-few, start-told-few, least-few, from-few             an offset of numbers of 16 bits is far below a word
 --     most-table, table-few                               the length of the longest table
 -- Assumes nothing.
 use Prim.Native.Nat.{ℕ, zero, suc, _+_, _*_, _/_, _%_, _^_, _≤_, _<_}
@@ -19,7 +19,7 @@ use Rattle.lists.specs.Limits.{mostFields, mostRules}
 use Rattle.lists.proofs.Rules.{row-inside, square-few}
 use lib.Arith.{digits-div, digits-mod}
 use lib.ListN.{length}
-use Rattle.tables.specs.Layout.{headLength, TableFor, rowOf, tableLength, orderAt, startAt, fromAt, toAt, mostTable}
+use Rattle.tables.specs.Layout.{headLength, TableFor, rowOf, tableLength, orderAt, startAt, leastAt, fromAt, toAt, mostTable}
 
 -- ---- rows
 module _ (d p : ℕ) where
@@ -69,6 +69,10 @@ pub start-suc : (room q : ℕ) → startAt room q + 1 ≡ startAt room (suc q)
 unfolding startAt
 start-suc room q = omega arith
 
+pub least-next : (room q : ℕ) → leastAt room q ≡ leastAt room 0 + q
+unfolding leastAt
+least-next room q = omega arith
+
 module _ (room d p f : ℕ) where
   pub from-next : fromAt room d p f ≡ fromAt room d 0 0 + rowOf d p f
   unfolding fromAt rowOf
@@ -87,10 +91,14 @@ pub order-ends : (room : ℕ) → orderAt 0 + room ≡ startAt room 0
 unfolding startAt
 order-ends room = omega (arith, order-next room)
 
+pub starts-end : (room : ℕ) → startAt room 0 + (room + 1) ≡ leastAt room 0
+unfolding leastAt
+starts-end room = omega (arith, start-next room room)
+
 module _ (room d : ℕ) where
-  pub starts-end : startAt room 0 + (room + 1) ≡ fromAt room d 0 0
+  pub leasts-end : leastAt room 0 + room ≡ fromAt room d 0 0
   unfolding fromAt rowOf
-  starts-end = omega (arith, start-next room room)
+  leasts-end = omega (arith, least-next room room)
 
   pub froms-end : fromAt room d 0 0 + room * d ≡ toAt room d 0 0
   unfolding toAt rowOf
@@ -104,13 +112,16 @@ module _ (room d : ℕ) where
 module _ (room d : ℕ) where
   -- n, d, b and the first start
   pub opening-inside : headLength < tableLength room d
-  opening-inside = omega (arith, head-ends, order-ends room, starts-end room d, froms-end room d, tos-end room d)
+  opening-inside = omega (arith, head-ends, order-ends room, starts-end room, leasts-end room d, froms-end room d, tos-end room d)
 
   pub order-inside : (p : ℕ) → p < room → orderAt p < tableLength room d
-  order-inside p lt = omega (arith, order-next p, order-ends room, starts-end room d, froms-end room d, tos-end room d)
+  order-inside p lt = omega (arith, order-next p, order-ends room, starts-end room, leasts-end room d, froms-end room d, tos-end room d)
 
   pub start-inside : (q : ℕ) → q ≤ room → startAt room q < tableLength room d
-  start-inside q le = omega (arith, start-next room q, starts-end room d, froms-end room d, tos-end room d)
+  start-inside q le = omega (arith, start-next room q, starts-end room, leasts-end room d, froms-end room d, tos-end room d)
+
+  pub least-inside : (q : ℕ) → q < room → leastAt room q < tableLength room d
+  least-inside q lt = omega (arith, least-next room q, leasts-end room d, froms-end room d, tos-end room d)
 
   pub from-inside : (p f : ℕ) → p < room → f < d → fromAt room d p f < tableLength room d
   from-inside p f lt in-row = omega (arith, from-next room d p f, row-in d p room f lt in-row, froms-end room d, tos-end room d)
@@ -151,14 +162,21 @@ pub start-few : {room q : ℕ} → room < 2 ^ 16 → q < 2 ^ 16 → startAt room
 unfolding startAt orderAt
 start-few few-room few-q = omega arith
 
--- where a callee told it, of whichever place and field
-pub from-few : (room d p f : ℕ) {at : ℕ} → at ≡ fromAt room d p f → room < 2 ^ 16 → d < 2 ^ 16 → p < 2 ^ 16 → f < 2 ^ 16 → at ≤ 4295032834
+-- where a callee told it, of whichever partition, place and field
+pub start-told-few : (room q : ℕ) {at : ℕ} → at ≡ startAt room q → room < 2 ^ 16 → q < 2 ^ 16 → at ≤ 131073
+start-told-few room q is few-room few-q = omega (arith, is, start-few few-room few-q)
+
+pub least-few : (room q : ℕ) {at : ℕ} → at ≡ leastAt room q → room < 2 ^ 16 → q < 2 ^ 16 → at ≤ 196609
+unfolding leastAt
+least-few room q is few-room few-q = omega (arith, is, start-few few-room few-room)
+
+pub from-few : (room d p f : ℕ) {at : ℕ} → at ≡ fromAt room d p f → room < 2 ^ 16 → d < 2 ^ 16 → p < 2 ^ 16 → f < 2 ^ 16 → at ≤ 4295098369
 unfolding fromAt
-from-few room d p f is few-room few-d few-p few-f = omega (arith, is, start-few few-room few-room, row-few few-d few-p few-f)
+from-few room d p f is few-room few-d few-p few-f = omega (arith, is, least-few room room refl few-room few-room, row-few few-d few-p few-f)
 
 -- ---- the longest table
-pub most-table : mostTable ≡ 18436
-unfolding tableLength toAt fromAt startAt orderAt rowOf
+pub most-table : mostTable ≡ 19460
+unfolding tableLength toAt fromAt leastAt startAt orderAt rowOf
 most-table = refl
 
 pub table-few : (room d : ℕ) → room ≤ mostRules → d ≤ mostFields → tableLength room d ≤ mostTable
@@ -170,7 +188,8 @@ table-few room d few-rules few-fields =
       most-table,
       head-ends,
       order-ends room,
-      starts-end room d,
+      starts-end room,
+      leasts-end room d,
       froms-end room d,
       tos-end room d,
     )

@@ -1,5 +1,5 @@
--- Two tables of the right length that are read alike are one: each number of a table is n, d, b, a rule at a place, a start, a run-from or
--- a run-to.
+-- Two tables of the right length that are read alike are one: each number of a table is n, d, b, a rule at a place, a start, a smallest rule
+-- number, a run-from or a run-to.
 --     ReadAlike       two views say the same
 --     same-table      the law
 -- Assumes nothing.
@@ -12,8 +12,8 @@ use lib.Dec.{ltb}
 use lib.ListN.{getD}
 use lib.Seq.{ext-getD}
 use borrow.Author.Tests.{ltb-true, ltb-false}
-use Rattle.tables.specs.Layout.{headLength, TableFor, View, view, tableLength, orderAt, startAt, fromAt, toAt}
-use Rattle.tables.proofs.Offsets.{row-back, row-split, order-next, start-next, from-next, to-next, head-ends, order-ends, starts-end, froms-end, tos-end}
+use Rattle.tables.specs.Layout.{headLength, TableFor, View, view, tableLength, orderAt, startAt, leastAt, fromAt, toAt}
+use Rattle.tables.proofs.Offsets.{row-back, row-split, order-next, start-next, least-next, from-next, to-next, head-ends, order-ends, starts-end, leasts-end, froms-end, tos-end}
 
 -- two views say the same of n rules of d fields
 pub record ReadAlike (n d : ℕ) (v w : View) : Type 0 where
@@ -22,6 +22,7 @@ pub record ReadAlike (n d : ℕ) (v w : View) : Type 0 where
   pub parts : v .b ≡ w .b
   pub order : (p : ℕ) → p < n → v .order p ≡ w .order p
   pub start : (q : ℕ) → q ≤ n → v .start q ≡ w .start q
+  pub least : (q : ℕ) → q < n → v .least q ≡ w .least q
   pub from : (p f : ℕ) → p < n → f < d → v .from p f ≡ w .from p f
   pub to : (p f : ℕ) → p < n → f < d → v .to p f ≡ w .to p f
 
@@ -43,6 +44,9 @@ module _ {n d : ℕ} (S T : List ℕ) (same : ReadAlike n d (view n d S) (view n
   in-starts : (q k : ℕ) → q ≤ n → startAt n 0 ≤ k → q ≡ k - startAt n 0 → Same k
   in-starts q k le over is = subst Same (let at : startAt n q ≡ k = omega (arith, start-next n q) in at) (same .start q le)
 
+  in-leasts : (q k : ℕ) → q < n → leastAt n 0 ≤ k → q ≡ k - leastAt n 0 → Same k
+  in-leasts q k lt over is = subst Same (let at : leastAt n q ≡ k = omega (arith, least-next n q) in at) (same .least q lt)
+
   -- number c of all rows
   in-froms : (c k : ℕ) → c < n * d → fromAt n d 0 0 ≤ k → c ≡ k - fromAt n d 0 0 → Same k
   in-froms c k lt over is =
@@ -57,24 +61,29 @@ module _ {n d : ℕ} (S T : List ℕ) (same : ReadAlike n d (view n d S) (view n
       subst Same at (same .to (c / d) (c % d) (inside .0) (inside .1))
 
   anywhere : (k : ℕ) → k < tableLength n d → Same k
-  anywhere k lt = go (ltb k headLength) (ltb k (startAt n 0)) (ltb k (fromAt n d 0 0)) (ltb k (toAt n d 0 0)) refl refl refl refl
+  anywhere k lt = go (ltb k headLength) (ltb k (startAt n 0)) (ltb k (leastAt n 0)) (ltb k (fromAt n d 0 0)) (ltb k (toAt n d 0 0)) refl refl refl refl refl
     where
-      go : (a b c e : Bool) → ltb k headLength ≡ a → ltb k (startAt n 0) ≡ b → ltb k (fromAt n d 0 0) ≡ c → ltb k (toAt n d 0 0) ≡ e → Same k
-      go true b c e p q r s = in-head k (ltb-true k headLength p)
-      go false true c e p q r s =
+      go : (a b c e g : Bool) → ltb k headLength ≡ a → ltb k (startAt n 0) ≡ b → ltb k (leastAt n 0) ≡ c → ltb k (fromAt n d 0 0) ≡ e → ltb k (toAt n d 0 0) ≡ g
+          → Same k
+      go true b c e g p q r s t = in-head k (ltb-true k headLength p)
+      go false true c e g p q r s t =
           let over = ltb-false k headLength p in
           let under = ltb-true k (startAt n 0) q in
           in-order (k - orderAt 0) k (omega (arith, order-ends n, head-ends)) (omega (arith, head-ends)) refl
-      go false false true e p q r s =
+      go false false true e g p q r s t =
           let over = ltb-false k (startAt n 0) q in
-          let under = ltb-true k (fromAt n d 0 0) r in
-          in-starts (k - startAt n 0) k (omega (arith, starts-end n d)) over refl
-      go false false false true p q r s =
-          let over = ltb-false k (fromAt n d 0 0) r in
-          let under = ltb-true k (toAt n d 0 0) s in
+          let under = ltb-true k (leastAt n 0) r in
+          in-starts (k - startAt n 0) k (omega (arith, starts-end n)) over refl
+      go false false false true g p q r s t =
+          let over = ltb-false k (leastAt n 0) r in
+          let under = ltb-true k (fromAt n d 0 0) s in
+          in-leasts (k - leastAt n 0) k (omega (arith, leasts-end n d)) over refl
+      go false false false false true p q r s t =
+          let over = ltb-false k (fromAt n d 0 0) s in
+          let under = ltb-true k (toAt n d 0 0) t in
           in-froms (k - fromAt n d 0 0) k (omega (arith, froms-end n d)) over refl
-      go false false false false p q r s =
-          let over = ltb-false k (toAt n d 0 0) s in
+      go false false false false false p q r s t =
+          let over = ltb-false k (toAt n d 0 0) t in
           in-tos (k - toAt n d 0 0) k (omega (arith, tos-end n d)) over refl
 
   pub same-table : TableFor n d S → TableFor n d T → S ≡ T

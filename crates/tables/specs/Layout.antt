@@ -1,4 +1,4 @@
--- 01, The working table: where its parts stand, and the table read as a view. Nothing else knows an offset: each part begins where the one
+-- 01, The working table, and 02, W5: where its parts stand, and the table read as a view. Nothing else knows an offset: each part begins where the one
 -- before it ends, and proofs use the laws of `proofs/Offsets.antt`. `room` is how many rules a part has room for, today n.
 -- Assumes nothing: these are definitions.
 use Prim.Native.Nat.{ℕ, _+_, _*_}
@@ -41,16 +41,24 @@ orderIn T p = getD T (orderAt p) 0
 abbrev pub startIn : ℕ → List ℕ → ℕ → ℕ
 startIn room T q = getD T (startAt room q) 0
 
--- where the run-from of place p and field f stands: after the last start, of room + 1
+-- where the smallest rule number of partition q stands: after the last start, of room + 1
+unfoldable pub leastAt : ℕ → ℕ → ℕ
+leastAt room q = startAt room room + 1 + q
+
+-- the smallest rule number that a table with this room stores for partition q
+abbrev pub leastIn : ℕ → List ℕ → ℕ → ℕ
+leastIn room T q = getD T (leastAt room q) 0
+
+-- where the run-from of place p and field f stands: after the last smallest number, of room
 unfoldable pub fromAt : ℕ → ℕ → ℕ → ℕ → ℕ
-fromAt room d p f = startAt room room + 1 + rowOf d p f
+fromAt room d p f = leastAt room room + rowOf d p f
 
 -- where its run-to stands: after the last run-from
 unfoldable pub toAt : ℕ → ℕ → ℕ → ℕ → ℕ
 toAt room d p f = fromAt room d room 0 + rowOf d p f
 
 -- the length of a table: after the last run-to
--- (of n = 5, d = 2, 01's bench list: 34)
+-- (of n = 5, d = 2, 01's bench list: 39)
 unfoldable pub tableLength : ℕ → ℕ → ℕ
 tableLength room d = toAt room d room 0
 
@@ -62,14 +70,15 @@ mostTable = tableLength mostRules mostFields
 pub record TableFor (room d : ℕ) (T : List ℕ) : Type 0 where
   pub long : length T ≡ tableLength room d
 
--- what a table says: how many rules, fields and partitions; the rule at a place; the first place of a partition;
--- the first place of a place's run by its first fields up to f, and the place after its last
+-- what a table says: how many rules, fields and partitions; the rule at a place; the first place of a partition, and its smallest rule
+-- number as it is stored; the first place of a place's run by its first fields up to f, and the place after its last
 pub record View : Type 0 where
   pub n : ℕ
   pub d : ℕ
   pub b : ℕ
   pub order : ℕ → ℕ
   pub start : ℕ → ℕ
+  pub least : ℕ → ℕ
   pub from : ℕ → ℕ → ℕ
   pub to : ℕ → ℕ → ℕ
 
@@ -82,6 +91,7 @@ view room d T =
       b = getD T bAt 0;
       order = orderIn T;
       start = startIn room T;
+      least = leastIn room T;
       from = λ p f. getD T (fromAt room d p f) 0;
       to = λ p f. getD T (toAt room d p f) 0;
     }

@@ -1,11 +1,11 @@
 // Where each part of a working table stands: each begins where the one before it ends. No other file knows an offset.
 //
-// `room` is how many rules a part has room for: the order has as many places, the starts one more, and the runs as many
-// rows of d numbers each.
+// `room` is how many rules a part has room for: the order has as many places, the starts one more, the smallest rule numbers as
+// many, and the runs as many rows of d numbers each.
 use lists::shape::MOST_FIELDS;
 use lists::shape::MOST_RULES;
 ghost use mathlib.Core.Path.{_≡_};
-ghost use Rattle.tables.specs.Layout.{rowOf, tableLength, orderAt, startAt, fromAt, toAt};
+ghost use Rattle.tables.specs.Layout.{rowOf, tableLength, orderAt, startAt, leastAt, fromAt, toAt};
 
 // Where n, the number of rules, stands.
 pub const N_AT: usize = 0;
@@ -20,7 +20,11 @@ pub const B_AT: usize = 2;
 const HEAD: usize = 3;
 
 // The length of the longest table.
-pub const MOST_TABLE: usize = HEAD + MOST_RULES + (MOST_RULES + 1) + MOST_RULES * MOST_FIELDS * 2;
+pub const MOST_TABLE: usize = HEAD
+    + MOST_RULES
+    + (MOST_RULES + 1)
+    + MOST_RULES
+    + MOST_RULES * MOST_FIELDS * 2;
 
 // Says where the rule number at place p stands: the order comes after n, d and b.
 pub fn order_at(p: u16) -> usize
@@ -36,6 +40,13 @@ pub fn start_at(room: u16, q: u16) -> usize
     order_at(room) + q as usize
 }
 
+// Says where the smallest rule number of partition q stands: these come after the last start.
+pub fn least_at(room: u16, q: u16) -> usize
+    ensures { λ r. ⌜ r ≡ leastAt room q ⌝ }
+{
+    start_at(room, room) + 1 + q as usize
+}
+
 // Gives the number of a place and a field among the numbers of a part that has d for each place.
 fn row_of(d: u16, p: u16, f: u16) -> usize
     ensures { λ r. ⌜ r ≡ rowOf d p f ⌝ }
@@ -43,11 +54,12 @@ fn row_of(d: u16, p: u16, f: u16) -> usize
     p as usize * d as usize + f as usize
 }
 
-// Says where the run-from of place p and field f stands: the run-froms come after the last start.
+// Says where the run-from of place p and field f stands: the run-froms come after the last
+// smallest rule number.
 pub fn from_at(room: u16, d: u16, p: u16, f: u16) -> usize
     ensures { λ r. ⌜ r ≡ fromAt room d p f ⌝ }
 {
-    start_at(room, room) + 1 + row_of(d, p, f)
+    least_at(room, room) + row_of(d, p, f)
 }
 
 // Says where the run-to of place p and field f stands: the run-tos come after the last run-from.

@@ -1,13 +1,14 @@
 // A table's numbers, each read by its name, of a table of any length: 0 past its end.
 use crate::layout::B_AT;
 use crate::layout::from_at;
+use crate::layout::least_at;
 use crate::layout::order_at;
 use crate::layout::start_at;
 use crate::layout::to_at;
 ghost use mathlib.Core.Path.{_≡_};
 ghost use Prim.Native.Nat.{suc};
 ghost use lib.ListN.{getD};
-ghost use Rattle.tables.specs.Layout.{bAt, orderIn, startIn, fromAt, toAt};
+ghost use Rattle.tables.specs.Layout.{bAt, orderIn, startIn, leastIn, fromAt, toAt};
 ghost use Rattle.tables.specs.Opening.{partStands};
 
 // Reads the number that stands at an offset.
@@ -46,6 +47,13 @@ pub fn end_of(table: &[u16], room: u16, q: u16) -> u16
     ensures { λ r. ⌜ r ≡ startIn room (now (table .entry)) (suc q) ⌝ }
 {
     number_at(table, start_at(room, q) + 1)
+}
+
+// Reads the smallest rule number that a table with this room stores for partition q.
+pub fn least_of(table: &[u16], room: u16, q: u16) -> u16
+    ensures { λ r. ⌜ r ≡ leastIn room (now (table .entry)) q ⌝ }
+{
+    number_at(table, least_at(room, q))
 }
 
 // Reads the run-from of place p and field f of a table with this room, for rules of d fields.

@@ -13,7 +13,7 @@ use Rattle.words.specs.Limits.{pastIn, listMost, choiceMost, tableMost, 
 use Rattle.words.specs.Parts.{runEnd, narrowEnd}
 use Rattle.words.specs.declared.part.End.{End}
 
-pub table-most : tableMost ≡ 18500
+pub table-most : tableMost ≡ 19500
 unfolding tableMost
 table-most = ap (pastIn 500) most-table
 

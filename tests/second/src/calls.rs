@@ -9,7 +9,7 @@
 //!
 //! Numbers. Plain decimal digits without leading zeros ("0" itself stands), 0 to 4294967295; a number of a TABLE, and
 //! of a RUN of choose and layout, is 0 to 65535. LIST, TABLE and RUN are a length and then exactly that many numbers;
-//! the length is at most 16500 for a LIST, 18500 for a TABLE, 1100 for a RUN of choose and layout, 200 for that of r2p.
+//! the length is at most 16500 for a LIST, 19500 for a TABLE, 1100 for a RUN of choose and layout, 200 for that of r2p.
 //! HEADER is eight numbers. Each of P, FIELD, NUMBER, VALUE, LENGTH, WIDTH, LOW and HIGH is any number. After the last
 //! part nothing may follow.
 //!
@@ -45,7 +45,7 @@ use crate::refusal::Refusal;
 use crate::table::{audit, build, lay_out, report};
 
 pub const MOST_LIST: usize = 16500;
-pub const MOST_TABLE: usize = 18500;
+pub const MOST_TABLE: usize = 19500;
 pub const MOST_CHOICE: usize = 1100;
 pub const MOST_RUN: usize = 200;
 

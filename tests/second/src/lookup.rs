@@ -1,4 +1,5 @@
-//! 01, The walk: the lookup of a header in a table, as the paper's loop; 02, W2: whether the winner is at an edge.
+//! 01, The walk: the lookup of a header in a table, as the paper's loop; 02, W2: whether the winner is at an edge; 02, W5:
+//! which partitions are skipped.
 
 use crate::lists::{fits, Header, Rule, Shape};
 use crate::ranges::{high_end, side_of, Side};
@@ -63,13 +64,23 @@ fn at_edge(rule: &Rule, header: &Header) -> bool {
     rule.iter().zip(header).any(|(range, number)| range.low == *number || high_end(*range) == *number)
 }
 
-/// Answers the smallest candidate of all partitions, or none, and the sum of the tests; or 1, 2, 3, 5, 6. A candidate that
-/// lost has no say in the edge, and where there is none there is no edge. The flags may be others than the build's.
+/// A partition is skipped where its stored number is greater than the best candidate so far, so where some candidate is
+/// smaller: an equal number does not skip, and before the first candidate none does.
+fn is_skipped(least: usize, candidates: &[usize]) -> bool {
+    candidates.iter().any(|candidate| *candidate < least)
+}
+
+/// Answers the smallest candidate, or none, and the sum of the tests; or 1, 2, 3, 5, 6. The partitions come in order, and
+/// one that is skipped is tested for nothing, its starts neither; a later one may still be visited. A candidate that lost
+/// has no say in the edge, and where there is none there is no edge. The flags may be others than the build's.
 pub fn lookup(shape: Shape, list: &[u32], table: &[u16], header: &Header) -> Result<Looked, Refusal> {
     let (rules, table) = open(shape, list, table)?;
     let mut candidates = Vec::new();
     let mut tests = 0;
     for k in 0..table.b() {
+        if is_skipped(table.least(k), &candidates) {
+            continue;
+        }
         let (s, e) = table.partition(k)?;
         let walked = walk(&rules, &table, header, s, e)?;
         tests += walked.tests;

@@ -1,14 +1,37 @@
 //! 01, The working table: what is laid out in it, the build, the audit, what a table's opening needs, and the report; 02,
-//! W4: the table of a choice that is brought.
+//! W4: the table of a choice that is brought; 02, W5: each partition's smallest rule number, stored behind the starts.
 
 use crate::choices::{brought, choose, members_of, partitions_of};
 use crate::lists::{check, checked_rules_of, rules_of, Rule, Shape};
 use crate::refusal::{refuse, Refusal};
 use crate::sorting::ascending;
 
+/// Where the order begins, behind n, d and b.
+pub const ORDER_AT: usize = 3;
+
+/// Where the n + 1 starts of a table of n rules begin.
+pub fn starts_at(n: usize) -> usize {
+    ORDER_AT + n
+}
+
+/// Where the n smallest rule numbers begin, one for each partition and zeros past b.
+pub fn least_at(n: usize) -> usize {
+    starts_at(n) + n + 1
+}
+
+/// Where run-from begins, d numbers a place.
+pub fn run_from_at(n: usize) -> usize {
+    least_at(n) + n
+}
+
+/// Where run-to begins, of a table of n rules on d fields.
+pub fn run_to_at(n: usize, d: usize) -> usize {
+    run_from_at(n) + n * d
+}
+
 /// How many numbers a table of n rules on d fields has.
 pub fn table_length(n: usize, d: usize) -> usize {
-    4 + 2 * n + 2 * n * d
+    4 + 3 * n + 2 * n * d
 }
 
 /// The table of these rules on d fields, in the partitions of the run.
@@ -36,7 +59,10 @@ pub fn table_of(rules: &[Rule], run: &[u16], d: usize) -> Vec<u16> {
         }
     }
     starts.resize(n + 1, 0);
-    let table: Vec<u16> = [vec![n, d, b], order, starts, run_from, run_to].concat().iter().map(|x| *x as u16).collect();
+    // past b a partition has no rule, and its number is 0
+    let least: Vec<usize> = (0..n).map(|k| members_of(run, k).into_iter().min().unwrap_or(0)).collect();
+    let parts = [vec![n, d, b], order, starts, least, run_from, run_to];
+    let table: Vec<u16> = parts.concat().iter().map(|x| *x as u16).collect();
     assert_eq!(table.len(), table_length(n, d));
     table
 }
@@ -108,23 +134,29 @@ impl Table<'_> {
     /// The rule number at a place.
     pub fn order(&self, place: usize) -> usize {
         assert!(place < self.n);
-        self.numbers[3 + place] as usize
+        self.numbers[ORDER_AT + place] as usize
     }
 
     /// The first place of partition k; k is at most n.
     pub fn start(&self, k: usize) -> usize {
         assert!(k <= self.n);
-        self.numbers[3 + self.n + k] as usize
+        self.numbers[starts_at(self.n) + k] as usize
+    }
+
+    /// The smallest rule number of partition k, as it is stored; k is less than n.
+    pub fn least(&self, k: usize) -> usize {
+        assert!(k < self.n);
+        self.numbers[least_at(self.n) + k] as usize
     }
 
     pub fn run_from(&self, place: usize, field: usize) -> usize {
         assert!(place < self.n && field < self.d);
-        self.numbers[4 + 2 * self.n + place * self.d + field] as usize
+        self.numbers[run_from_at(self.n) + place * self.d + field] as usize
     }
 
     pub fn run_to(&self, place: usize, field: usize) -> usize {
         assert!(place < self.n && field < self.d);
-        self.numbers[4 + 2 * self.n + self.n * self.d + place * self.d + field] as usize
+        self.numbers[run_to_at(self.n, self.d) + place * self.d + field] as usize
     }
 
     /// The places of partition k, from a first to before a next, or 6.
@@ -156,8 +188,9 @@ pub fn open<'a>(shape: Shape, list: &[u32], table: &'a [u16]) -> Result<(Vec<Rul
     Ok((rules, table))
 }
 
-/// Answers a partition's size and smallest rule number, or 1, 2, 3, 5, 6 for the opening, 7, 6 for the partition.
-/// Reading 5: with n = 0 and a fine opening every partition number is 7. No range is read, so the flags alter nothing.
+/// Answers a partition's size and its stored smallest rule number, or 1, 2, 3, 5, 6 for the opening, 7, 6 for the
+/// partition: its starts, or a stored number of n or more. No place is read, and no range, so the flags alter nothing.
+/// Reading 5: with n = 0 and a fine opening every partition number is 7.
 pub fn report(shape: Shape, list: &[u32], table: &[u16], k: u32) -> Result<(usize, usize), Refusal> {
     let (_, table) = open(shape, list, table)?;
     let k = k as usize;
@@ -165,13 +198,9 @@ pub fn report(shape: Shape, list: &[u32], table: &[u16], k: u32) -> Result<(usiz
         return Err(refuse(7));
     }
     let (start, next) = table.partition(k)?;
-    let members: Vec<usize> = (start..next).map(|place| table.order(place)).collect();
-    if members.iter().any(|rule| *rule >= table.n) {
+    let smallest = table.least(k);
+    if smallest >= table.n {
         return Err(refuse(6));
-    }
-    let mut smallest = members[0];
-    for rule in members {
-        smallest = smallest.min(rule);
     }
     Ok((next - start, smallest))
 }

@@ -1,7 +1,7 @@
 -- What a build writes where nothing is refused (`specs/Build.antt`): first fit's numbers into room for 1,024 of them, and the table with these.
 --     room-few, room-run                            room for 1,024 partition numbers
 --     chosen-fits, chosen-count                     of which the first n are chosen
---     chosen-laying, chosen-parts, chosen-written   the table laid out with them
+--     chosen-laying, chosen-opened, chosen-written   the table laid out with them
 --     left-refused, left-written                    what is answered and left, by a refusal
 --     built-refused, built-fine, built-written      the same of a build
 -- Assumes nothing.
@@ -59,8 +59,8 @@ module _ {R : Rules} {T : List ℕ} (h : Buildable R T) {n : ℕ} (is-n : n ≡ 
           sized = h .sized;
         }
 
-    pub chosen-parts : {r : ℕ} → r ≡ parts (take n (run ++ rest)) (rulesIn R) → r ≡ builtParts R
-    chosen-parts is = is ∙ ap (λ x. parts x (rulesIn R)) chosen-is
+    pub chosen-opened : b ≡ parts (take n (run ++ rest)) (rulesIn R)
+    chosen-opened = chosen .opened ∙ ap (λ x. parts x (rulesIn R)) (sym chosen-is)
 
     pub chosen-written : {after : List ℕ} → after ≡ tableOf R (take n (run ++ rest)) → after ≡ builtTable R
     chosen-written is = is ∙ ap (tableOf R) chosen-is

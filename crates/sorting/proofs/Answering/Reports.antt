@@ -4,30 +4,29 @@
 --     choice-size            the size is how many rules have this partition number
 --     choice-report          the answer
 -- Assumes nothing.
-use Prim.Native.Nat.{ℕ, suc, _+_, _≤_, _<_}
+use Prim.Native.Nat.{ℕ, suc, _+_, _<_}
 use mathlib.Core.Bool.{Bool, true, false}
 use mathlib.Core.List.{List}
-use mathlib.Core.Path.{_≡_, refl, sym, ap, _∙_, subst}
+use mathlib.Core.Path.{_≡_, refl, _∙_}
 use native.Mathlib.Omega.{arith}
 use lib.Dec.{ltb, eqb}
-use borrow.Author.Tests.{lt-ltb, le-leb, eq-eqb, ltb-true, ltb-false, eqb-true, eqb-false}
+use borrow.Author.Tests.{lt-ltb, le-leb, ltb-true, ltb-false, eqb-true, eqb-false}
 use Rattle.ranges.specs.Numbers.{bit, count, least}
-use Rattle.ranges.proofs.Numbers.{all-yes, least-is}
 use Rattle.lists.specs.Rules.{Rules, rulesIn, Shaped}
 use Rattle.sorting.specs.FirstFit.{partOf, Choice}
 use Rattle.tables.specs.Opening.{viewOf}
-use Rattle.sorting.specs.Table.{placeOf, ruleAt, startOf, tableOf}
+use Rattle.sorting.specs.Table.{startOf, tableOf}
 use Rattle.sorting.specs.Promise.{Promise}
-use Rattle.tables.specs.Report.{sizeOf, leastRule, reportOf}
+use Rattle.tables.specs.Report.{sizeOf, reportOf}
 use Rattle.tables.specs.declared.report.Part.the-variants.{Is}
 use Rattle.lists.proofs.Sound.{Sound}
 use Rattle.ranges.proofs.Counting.{count-split}
-use Rattle.sorting.proofs.Sorted.Places.{place-lt, rule-place, place-rule}
-use Rattle.sorting.proofs.Sorted.Starts.{choice-few, start-is, start-few, start-ascend, in-part, place-part}
-use Rattle.sorting.proofs.Sorted.Kept.{seen-parts, seen-start, choice-keeps-promise}
-use Rattle.sorting.proofs.Sorted.Reading.{table-sized, read-order}
+use Rattle.sorting.proofs.Sorted.Starts.{choice-few, start-is, start-few, start-ascend}
+use Rattle.sorting.proofs.Sorted.Leasts.{least-part, least-rule}
+use Rattle.sorting.proofs.Sorted.Kept.{seen-parts, seen-start, seen-least, choice-keeps-promise}
+use Rattle.sorting.proofs.Sorted.Reading.{table-sized}
 use Rattle.tables.proofs.Opened.{Opened}
-use Rattle.tables.proofs.Reporting.{Reported, Smallest, reported-least, report-answers}
+use Rattle.tables.proofs.Reporting.{Reported, report-answers}
 
 -- a number below suc q is below q, or q itself
 bit-next : (x q : ℕ) → bit (ltb x (suc q)) ≡ bit (ltb x q) + bit (eqb x q)
@@ -72,9 +71,7 @@ module _ {R : Rules} {run : List ℕ} {b : ℕ} (shape : Shaped R) (sound : Soun
         opens = table-opens;
         part = omega (arith, seen-parts choice);
         starts = rw (start-read-off, next-read-off, lt-ltb (startOf R run q) (startOf R run (suc q)) (start-ascend choice q few), le-leb (startOf R run (suc q)) (rulesIn R) (start-few choice (suc q) few));
-        rules = all-yes (λ k. ltb (viewOf R (tableOf R run) .order (viewOf R (tableOf R run) .start q + k)) (rulesIn R)) (sizeOf (viewOf R (tableOf R run) .start) q)
-            (λ k l. lt-ltb (viewOf R (tableOf R run) .order (viewOf R (tableOf R run) .start q + k)) (rulesIn R)
-            (kept .order-rule (viewOf R (tableOf R run) .start q + k) (omega (arith, next-read-off, start-few choice (suc q) few))));
+        least = omega (arith, seen-least choice q few, least-rule choice q few .0);
       }
 
   -- the size is how many rules have this partition number
@@ -84,57 +81,6 @@ module _ {R : Rules} {run : List ℕ} {b : ℕ} (shape : Shaped R) (sound : Soun
       count-split (λ i. ltb (partOf run i) q) (λ i. eqb (partOf run i) q) (λ i. ltb (partOf run i) (suc q)) (rulesIn R) (λ i l. bit-next (partOf run i) q) in
       omega (arith, split, start-read-off, next-read-off, start-is choice q (omega arith), start-is choice (suc q) few)
 
-  -- the smallest rule number of its places is the smallest with this partition number
-  choice-least : leastRule (rulesIn R) (viewOf R (tableOf R run) .start) (viewOf R (tableOf R run) .order) q ≡ least (rulesIn R) (λ i. eqb (partOf run i) q)
-  choice-least = sym (least-is (λ i. eqb (partOf run i) q) (rulesIn R) m below here under)
-    where
-      m : ℕ
-      m = leastRule (rulesIn R) (viewOf R (tableOf R run) .start) (viewOf R (tableOf R run) .order) q
-
-      of : Smallest R (tableOf R run) q m
-      of = reported-least choice-reported
-
-      -- the place that has it
-      p : ℕ
-      p = of .at .0
-
-      p-low : startOf R run q ≤ p
-      p-low = omega (arith, of .at .1, start-read-off)
-
-      p-high : p < startOf R run (suc q)
-      p-high = omega (arith, of .at .2, next-read-off)
-
-      is-p : p < rulesIn R
-      is-p = omega (arith, p-high, start-few choice (suc q) few)
-
-      rule : ruleAt R run p ≡ m
-      rule = sym (read-order R run p is-p) ∙ of .at .3
-
-      below : m < rulesIn R
-      below = subst (λ i. i < rulesIn R) rule (place-rule sound choice p is-p .0)
-
-      here : eqb (partOf run m) q ≡ true
-      here = eq-eqb (partOf run m) q (ap (partOf run) (sym rule) ∙ place-part sound choice p q p-low p-high)
-
-      -- a smaller rule of the partition would stand at one of its places
-      never-smaller : (k : ℕ) → k < m → partOf run k ≡ q → ⊥
-      never-smaller k lt e =
-          let is-k : k < rulesIn R = omega (arith, below) in
-          let r = placeOf R run k in
-          let is-r = place-lt sound choice k is-k in
-          let at = rule-place sound choice k is-k in
-          let inside = subst (λ i. (startOf R run (partOf run i) ≤ r) × (r < startOf R run (suc (partOf run i)))) at (in-part sound choice r is-r) in
-          let mine = subst (λ x. (startOf R run x ≤ r) × (r < startOf R run (suc x))) e inside in
-          let no-less = of .least-of r (omega (arith, mine .0, start-read-off)) (omega (arith, mine .1, next-read-off)) in
-          omega (arith, no-less, read-order R run r is-r, at)
-
-      under : (k : ℕ) → k < m → eqb (partOf run k) q ≡ false
-      under k lt = go (eqb (partOf run k) q) refl
-        where
-          go : (t : Bool) → eqb (partOf run k) q ≡ t → t ≡ false
-          go true e = absurd (never-smaller k lt (eqb-true (partOf run k) q e))
-          go false e = refl
-
   pub choice-report : reportOf R (tableOf R run) q
       ≡ Is (count (rulesIn R) (λ i. eqb (partOf run i) q)) (least (rulesIn R) (λ i. eqb (partOf run i) q))
-  choice-report = report-answers choice-reported choice-size choice-least
+  choice-report = report-answers choice-reported choice-size (seen-least choice q few ∙ least-part choice q few)

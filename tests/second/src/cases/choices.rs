@@ -6,20 +6,22 @@ use super::lines::Lines;
 use super::lookup::MARKED;
 use super::shapes::{
     all_choices, all_headers, all_lists, all_runs, altered, as_dates, built, chain, chosen, dated, filled, grid,
-    header_of, laid, nested, permutations, reversed, stairs, twins, unwritten, ALL, BENCH, ODD_FIELDS, TOP,
+    header_of, laid, nested, permutations, reversed, rules_in, stairs, twins, unwritten, with, ALL, BENCH, ODD_FIELDS,
+    TOP,
 };
-use super::tables::{damage, drawn_choice, looks_right, spoiled_run};
+use super::tables::{damage, drawn_choice, looks_right, spoiled_run, with_least};
 use crate::choices::partitions_of;
 use crate::lists::{Header, Shape};
 use crate::seed::Seed;
+use crate::table::{least_at, run_from_at, run_to_at, starts_at, ORDER_AT};
 
 /// Lines that were worked out by hand, and their answers: a choice that is brought; no rule; 15; 16, 17 and 18 of three
 /// twins; the bench list's first fit, and its partitions in another order; dates that touch and ranges that do; the
 /// audit of a choice that is no first fit, of one with a clash, and of an empty partition.
 pub const WORKED: [(&str, &str); 18] = [
     (
-        "layout 1 6 0 9 0 9 0 9 3 2 0 1 16 7 7 7 7 7 7 7 7 7 7 7 7 7 7 7 7",
-        "ok 3 table 3 1 3 1 2 0 0 1 2 3 0 1 2 1 2 3",
+        "layout 1 6 0 9 0 9 0 9 3 2 0 1 19 7 7 7 7 7 7 7 7 7 7 7 7 7 7 7 7 7 7 7",
+        "ok 3 table 3 1 3 1 2 0 0 1 2 3 1 2 0 0 1 2 1 2 3",
     ),
     ("choose 1 0 0", "ok 0 run"),
     ("choose 1 0 1 7", "refused 15 0 0 run 7"),
@@ -27,38 +29,36 @@ pub const WORKED: [(&str, &str); 18] = [
     ("layout 8 0 0 4 7 7 7 7", "ok 0 table 0 8 0 0"),
     ("layout 1 0 1 0 4 7 7 7 7", "refused 15 0 0 table 7 7 7 7"),
     (
-        "layout 1 6 7 7 7 7 7 7 3 0 3 0 16 1 1 1 1 1 1 1 1 1 1 1 1 1 1 1 1",
-        "refused 16 0 0 table 1 1 1 1 1 1 1 1 1 1 1 1 1 1 1 1",
+        "layout 1 6 7 7 7 7 7 7 3 0 3 0 19 1 1 1 1 1 1 1 1 1 1 1 1 1 1 1 1 1 1 1",
+        "refused 16 0 0 table 1 1 1 1 1 1 1 1 1 1 1 1 1 1 1 1 1 1 1",
     ),
     (
-        "layout 1 6 7 7 7 7 7 7 3 0 0 2 16 1 1 1 1 1 1 1 1 1 1 1 1 1 1 1 1",
-        "refused 17 0 0 table 1 1 1 1 1 1 1 1 1 1 1 1 1 1 1 1",
+        "layout 1 6 7 7 7 7 7 7 3 0 0 2 19 1 1 1 1 1 1 1 1 1 1 1 1 1 1 1 1 1 1 1",
+        "refused 17 0 0 table 1 1 1 1 1 1 1 1 1 1 1 1 1 1 1 1 1 1 1",
     ),
     (
-        "layout 1 6 7 7 7 7 7 7 3 1 1 1 16 1 1 1 1 1 1 1 1 1 1 1 1 1 1 1 1",
-        "refused 17 0 0 table 1 1 1 1 1 1 1 1 1 1 1 1 1 1 1 1",
+        "layout 1 6 7 7 7 7 7 7 3 1 1 1 19 1 1 1 1 1 1 1 1 1 1 1 1 1 1 1 1 1 1 1",
+        "refused 17 0 0 table 1 1 1 1 1 1 1 1 1 1 1 1 1 1 1 1 1 1 1",
     ),
     (
-        "layout 1 6 7 7 7 7 7 7 3 0 0 1 16 1 1 1 1 1 1 1 1 1 1 1 1 1 1 1 1",
-        "refused 18 0 0 table 1 1 1 1 1 1 1 1 1 1 1 1 1 1 1 1",
+        "layout 1 6 7 7 7 7 7 7 3 0 0 1 19 1 1 1 1 1 1 1 1 1 1 1 1 1 1 1 1 1 1 1",
+        "refused 18 0 0 table 1 1 1 1 1 1 1 1 1 1 1 1 1 1 1 1 1 1 1",
     ),
     ("choose 2 20 7 7 100 100 7 7 200 299 8 8 0 999 7 7 0 999 0 9 0 999 5 9 9 9 9 9", "ok 3 run 0 0 0 1 2"),
     (
-        "audit 2 20 7 7 100 100 7 7 200 299 8 8 0 999 7 7 0 999 0 9 0 999 34 5 2 3 4 3 0 1 2 0 1 2 5 0 0 0 0 1 1 2 2 2 3 4 4 1 1 2 2 4 3 4 4 5 5",
+        "audit 2 20 7 7 100 100 7 7 200 299 8 8 0 999 7 7 0 999 0 9 0 999 39 5 2 3 4 3 0 1 2 0 1 2 5 0 0 4 3 0 0 0 0 0 1 1 2 2 2 3 4 4 1 1 2 2 4 3 4 4 5 5",
         "ok yes",
     ),
     ("choose 1:10000000 4 1 5 5 9 2 9 9", "ok 1 run 0 0"),
-    ("layout 1:10000000 4 1 5 5 9 2 0 0 12 0 0 0 0 0 0 0 0 0 0 0 0", "ok 1 table 2 1 1 0 1 0 2 0 0 1 1 2"),
-    ("layout 1 4 1 5 5 9 2 0 0 12 0 0 0 0 0 0 0 0 0 0 0 0", "refused 18 0 0 table 0 0 0 0 0 0 0 0 0 0 0 0"),
-    ("audit 1 6 0 9 0 9 0 9 16 3 1 3 1 2 0 0 1 2 3 0 1 2 1 2 3", "ok yes"),
-    ("audit 1 4 7 7 7 7 12 2 1 1 0 1 0 2 0 0 0 2 2", "ok no"),
-    ("audit 1 6 1 1 3 3 5 5 16 3 1 3 0 1 2 0 1 1 3 0 1 2 1 2 3", "ok no"),
+    (
+        "layout 1:10000000 4 1 5 5 9 2 0 0 14 9 9 9 9 9 9 9 9 9 9 9 9 9 9",
+        "ok 1 table 2 1 1 0 1 0 2 0 0 0 0 1 1 2",
+    ),
+    ("layout 1 4 1 5 5 9 2 0 0 14 9 9 9 9 9 9 9 9 9 9 9 9 9 9", "refused 18 0 0 table 9 9 9 9 9 9 9 9 9 9 9 9 9 9"),
+    ("audit 1 6 0 9 0 9 0 9 19 3 1 3 1 2 0 0 1 2 3 1 2 0 0 1 2 1 2 3", "ok yes"),
+    ("audit 1 4 7 7 7 7 14 2 1 1 0 1 0 2 0 0 0 0 0 2 2", "ok no"),
+    ("audit 1 6 1 1 3 3 5 5 19 3 1 3 0 1 2 0 1 1 3 0 0 1 0 1 2 1 2 3", "ok no"),
 ];
-
-/// How many rules a list has.
-fn rules_in(shape: Shape, list: &[u32]) -> usize {
-    list.len() / (2 * shape.d as usize)
-}
 
 /// Chooses into a run of the right length that holds other numbers.
 pub fn choose(out: &mut Lines, shape: impl Into<Shape>, list: &[u32]) {
@@ -220,7 +220,11 @@ pub fn call_with(faults: &[u32]) -> (u32, Vec<u32>, Vec<u16>, Vec<u16>) {
     if has(15) {
         run.push(0);
     }
-    (d, list, run, filled(if has(5) { 15 } else { 16 }))
+    let mut table = unwritten(3, 1);
+    if has(5) {
+        table.pop();
+    }
+    (d, list, run, table)
 }
 
 /// Every set of refusals but 3 that can apply at once; 3 with its neighbours. A refused call leaves what was lent.
@@ -249,13 +253,15 @@ fn other_refusals(out: &mut Lines) {
     for d in 1..=8 {
         let shape = if d % 2 == 0 { Shape::from(d) } else { dated(d, ALL - 1) };
         let (list, run) = (stairs(2, d), [1, 0]);
-        let table = filled(8 + 4 * d as usize);
+        let table = unwritten(2, d);
         both(shape, &list, &run, &table);
         both(shape, &list[1..], &run, &table);
         both(shape, &[&list[..], &[7]].concat(), &run, &table);
         both(shape, &list, &run, &table[1..]);
         both(shape, &list, &run, &[&table[..], &[7]].concat());
         both(shape, &list, &run, &[]);
+        // as long as 01 has it
+        both(shape, &list, &run, &table[2..]);
         both(shape, &list, &[], &table[1..]);
         // 4 in the last field, and where low is high: in a date, and in a field that is none
         let mut other = list.clone();
@@ -380,6 +386,7 @@ fn brought_choices() -> Vec<(Shape, Vec<u32>, Vec<u16>)> {
         (Shape::from(2), BENCH.to_vec(), vec![2, 2, 2, 0, 1]),
         (Shape::from(1), vec![4, 6], vec![0]),
         (Shape::from(1), stairs(3, 1), vec![0, 1, 1]),
+        (Shape::from(1), vec![0, 1, 4, 5, 2, 3], vec![0, 1, 1]),
         (Shape::from(1), stairs(4, 1), vec![1, 0, 1, 0]),
         (Shape::from(1), twins(3, 1), vec![2, 0, 1]),
         (dated(1, ALL - 1), vec![6, 7, 4, 5, 0, 9, 2, 3], vec![1, 2, 0, 1]),
@@ -391,7 +398,7 @@ fn brought_choices() -> Vec<(Shape, Vec<u32>, Vec<u16>)> {
 }
 
 /// The table of a choice that was brought is yes. With a single number altered it is no, unless that is another choice's
-/// table: a start may move from one place to the next where the order holds.
+/// table: a start may move from one place to the next where the order holds and the smallest numbers stay.
 fn altered_tables(out: &mut Lines) {
     for (shape, list, run) in brought_choices() {
         let table = laid(shape, &list, &run);
@@ -408,11 +415,13 @@ fn altered_tables(out: &mut Lines) {
     }
 }
 
-/// Two partitions that change places, which is yes; and their order, starts or runs of places alone, without the rest.
+/// Two partitions that change places, which is yes; and their order, starts, smallest numbers or runs of places alone,
+/// without the rest.
 fn swapped_partitions(out: &mut Lines) {
     for (shape, list, run) in brought_choices() {
         let (b, n) = (partitions_of(&run) as u16, run.len());
         let table = laid(shape, &list, &run);
+        let cuts = [ORDER_AT, starts_at(n), least_at(n), run_from_at(n), table.len()];
         for (k, l) in (0..b).flat_map(|k| (0..k).map(move |l| (k, l))) {
             let swap = |j: &u16| match *j {
                 j if j == k => l,
@@ -421,37 +430,44 @@ fn swapped_partitions(out: &mut Lines) {
             };
             let other = laid(shape, &list, &run.iter().map(swap).collect::<Vec<u16>>());
             out.audit(shape, &list, &other);
-            out.audit(shape, &list, &[&table[..3], &other[3..3 + n], &table[3 + n..]].concat());
-            out.audit(shape, &list, &[&table[..3 + n], &other[3 + n..4 + 2 * n], &table[4 + 2 * n..]].concat());
-            out.audit(shape, &list, &[&table[..4 + 2 * n], &other[4 + 2 * n..]].concat());
+            for cut in cuts.windows(2) {
+                out.audit(shape, &list, &[&table[..cut[0]], &other[cut[0]..cut[1]], &table[cut[1]..]].concat());
+            }
         }
     }
 }
 
 /// All small numbers of partitions, orders and starts for two rules that do not meet; all orders and starts for three; all
-/// runs of places for two rules, also where they are alike in field 0.
+/// runs of places for two rules, also where they are alike in field 0. The smallest numbers are as the rest has them; then
+/// all small ones for every choice of three rules.
 fn all_tables(out: &mut Lines) {
     for code in 0..4 * 9 * 32 {
         let head = [2, 1, code % 4, code / 4 % 3, code / 12 % 3];
         let starts = [code / 36 % 2, code / 72 % 4, code / 288];
-        out.audit(1, &[1, 1, 3, 3], &[&head[..], &starts, &[0, 1, 1, 2]].concat());
+        out.audit(1, &[1, 1, 3, 3], &[&with_least(&[&head[..], &starts].concat())[..], &[0, 1, 1, 2]].concat());
     }
     for order in permutations(&[0, 1, 2]) {
         for code in 0..3 * 64 {
             let start = |i: u16| code / 3 >> (2 * i) & 3;
-            let head = [&[3, 1, 1 + code % 3], &order[..]].concat();
-            let table = [&head[..], &[0, start(0), start(1), start(2), 0, 1, 2, 1, 2, 3]].concat();
-            out.audit(1, &[1, 1, 3, 3, 5, 5], &table);
+            let head = [&[3, 1, 1 + code % 3], &order[..], &[0, start(0), start(1), start(2)]].concat();
+            out.audit(1, &[1, 1, 3, 3, 5, 5], &[&with_least(&head)[..], &[0, 1, 2, 1, 2, 3]].concat());
         }
     }
     for code in 0..256 {
         let place = |i: u16| code >> (2 * i) & 3;
-        for head in [[2, 1, 1, 0, 1, 0, 2, 0], [2, 1, 2, 1, 0, 0, 1, 2]] {
+        for head in [[2, 1, 1, 0, 1, 0, 2, 0], [2, 1, 2, 1, 0, 0, 1, 2]].map(|head| with_least(&head)) {
             let places = [place(0), place(1), place(2), place(3)];
             out.audit(1, &[1, 1, 3, 3], &[&head[..], &places[..]].concat());
             // the same in field 0 of rules that part in field 1
             let places = [place(0), 0, place(1), 1, place(2), 1, place(3), 2];
             out.audit(2, &[7, 7, 1, 1, 7, 7, 3, 3], &[&[2, 2][..], &head[2..], &places[..]].concat());
+        }
+    }
+    let list = stairs(3, 1);
+    for mut table in all_choices(1, &list).iter().map(|run| laid(1, &list, run)) {
+        for least in all_runs(3, 3) {
+            table[least_at(3)..run_from_at(3)].copy_from_slice(&least);
+            out.audit(1, &list, &table);
         }
     }
 }
@@ -499,10 +515,11 @@ fn many_rules(out: &mut Lines) {
     gap[1] = 0;
     lay(out, 1, &alike, &gap);
     lay(out, 8, &twins(1024, 8), &down);
-    let mut table = laid(1, &alike, &down);
+    let table = laid(1, &alike, &down);
     out.audit(1, &alike, &table);
-    table[4099] -= 1;
-    out.audit(1, &alike, &table);
+    for at in [run_from_at(1024) - 1, table.len() - 1] {
+        out.audit(1, &alike, &with(&table, at, table[at] + 1));
+    }
 }
 
 pub fn edges(out: &mut Lines) {
@@ -527,7 +544,8 @@ pub fn edges(out: &mut Lines) {
     many_rules(out);
 }
 
-/// A table near to one of a choice: damaged, of another choice in part, with a start moved, or one that only looks right.
+/// A table near to one of a choice: damaged, of another choice in part, with a start moved, and the smallest numbers with it
+/// or not, or one that only looks right.
 fn near_table(seed: &mut Seed, shape: Shape, list: &[u32], table: &[u16]) -> Vec<u16> {
     let n = rules_in(shape, list);
     let mut near = table.to_vec();
@@ -535,12 +553,15 @@ fn near_table(seed: &mut Seed, shape: Shape, list: &[u32], table: &[u16]) -> Vec
         0 => damage(seed, &mut near, n),
         1 => {
             let other = laid(shape, list, &drawn_choice(seed, shape, list));
-            let cut = seed.pick(&[3, 3 + n, 4 + 2 * n, 4 + 2 * n + n * shape.d as usize]);
+            let cut = seed.pick(&[ORDER_AT, starts_at(n), least_at(n), run_from_at(n), run_to_at(n, shape.d as usize)]);
             near[cut..].copy_from_slice(&other[cut..]);
         }
         2 if table[2] > 1 => {
-            let start = 3 + n + 1 + seed.below(table[2] as usize - 1);
+            let start = starts_at(n) + 1 + seed.below(table[2] as usize - 1);
             near[start] = if seed.once_in(2) { near[start] + 1 } else { near[start] - 1 };
+            if seed.once_in(2) {
+                near = [&with_least(&near[..least_at(n)]), &near[run_from_at(n)..]].concat();
+            }
         }
         _ => near = looks_right(seed, n, shape.d as usize),
     }

@@ -4,14 +4,46 @@ use super::characters::{dated_list, drawn_header, drawn_shape, spoiled_list, tur
 use super::lines::Lines;
 use super::shapes::{
     all_headers, altered, as_dates, built, chain, dated, grid, header_of, laid, nested, permutations, reversed, stairs,
-    twins, ALL, BENCH, ODD_FIELDS, TOP,
+    twins, with, ALL, BENCH, ODD_FIELDS, TOP,
 };
 use super::tables::{damage, drawn_choice, looks_right};
 use crate::lists::{Header, Shape};
 use crate::seed::Seed;
+use crate::table::{least_at, run_from_at, starts_at, ORDER_AT};
 
 /// The headers of B2 to B8.
 pub const MARKED: [[u32; 2]; 7] = [[7, 250], [7, 100], [7, 150], [8, 5], [9, 5], [10, 0], [7, 1000]];
+
+/// 02, W5: lines that were worked out by hand, and their answers, of three rules 0 to 9 and the run 2 0 1, whose smallest
+/// numbers are 1 2 0: the second partition is skipped after rule 1, and the third is not. Then with other stored numbers:
+/// past n before the first candidate, equal to the candidate, all 0, all 65535, and where nothing fits. Then with a rule
+/// number of n in a partition that is skipped and in one that is not, and a start that is the next one; the last partition
+/// after rule 1 and after rule 0. Reports, and audits.
+pub const WORKED: [(&str, &str); 23] = [
+    ("lookup 1 6 0 9 0 9 0 9 19 3 1 3 1 2 0 0 1 2 3 1 2 0 0 1 2 1 2 3 5 0 0 0 0 0 0 0", "ok 0 2 plain"),
+    ("lookup 1 6 0 9 0 9 0 9 19 3 1 3 1 2 0 0 1 2 3 65535 2 0 0 1 2 1 2 3 5 0 0 0 0 0 0 0", "ok 0 2 plain"),
+    ("lookup 1 6 0 9 0 9 0 9 19 3 1 3 1 2 0 0 1 2 3 1 1 0 0 1 2 1 2 3 5 0 0 0 0 0 0 0", "ok 0 3 plain"),
+    ("lookup 1 6 0 9 0 9 0 9 19 3 1 3 1 2 0 0 1 2 3 0 0 0 0 1 2 1 2 3 5 0 0 0 0 0 0 0", "ok 0 3 plain"),
+    ("lookup 1 6 0 9 0 9 0 9 19 3 1 3 1 2 0 0 1 2 3 65535 65535 65535 0 1 2 1 2 3 5 0 0 0 0 0 0 0", "ok 1 1 plain"),
+    ("lookup 1 6 0 9 0 9 0 9 19 3 1 3 1 2 0 0 1 2 3 65535 65535 65535 0 1 2 1 2 3 10 0 0 0 0 0 0 0", "ok none 3 plain"),
+    ("lookup 1 6 0 9 0 9 0 9 19 3 1 3 1 3 0 0 1 2 3 1 2 0 0 1 2 1 2 3 5 0 0 0 0 0 0 0", "ok 0 2 plain"),
+    ("lookup 1 6 0 9 0 9 0 9 19 3 1 3 1 3 0 0 1 2 3 1 1 0 0 1 2 1 2 3 5 0 0 0 0 0 0 0", "refused 6 0 0"),
+    ("lookup 1 6 0 9 0 9 0 9 19 3 1 3 1 2 0 0 1 1 3 1 2 0 0 1 2 1 2 3 5 0 0 0 0 0 0 0", "ok 0 2 plain"),
+    ("lookup 1 6 0 9 0 9 0 9 19 3 1 3 1 2 0 0 1 1 3 1 1 0 0 1 2 1 2 3 5 0 0 0 0 0 0 0", "refused 6 0 0"),
+    ("lookup 1 6 0 9 0 9 0 9 19 3 1 3 1 2 3 0 1 2 3 1 2 0 0 1 2 1 2 3 5 0 0 0 0 0 0 0", "refused 6 0 0"),
+    ("lookup 1 6 0 9 0 9 0 9 19 3 1 3 0 1 3 0 1 2 3 0 1 2 0 1 2 1 2 3 5 0 0 0 0 0 0 0", "ok 0 1 plain"),
+    ("report 1 6 0 9 0 9 0 9 19 3 1 3 1 2 0 0 1 2 3 1 2 0 0 1 2 1 2 3 0", "ok 1 1"),
+    ("report 1 6 0 9 0 9 0 9 19 3 1 3 1 2 0 0 1 2 3 1 2 0 0 1 2 1 2 3 2", "ok 1 0"),
+    ("report 1 6 0 9 0 9 0 9 19 3 1 3 1 2 0 0 1 2 3 65535 2 0 0 1 2 1 2 3 0", "refused 6 0 0"),
+    ("report 1 6 0 9 0 9 0 9 19 3 1 3 1 2 0 0 1 2 3 65535 2 0 0 1 2 1 2 3 1", "ok 1 2"),
+    ("report 1 6 0 9 0 9 0 9 19 3 1 3 1 2 0 0 1 2 3 3 2 0 0 1 2 1 2 3 0", "refused 6 0 0"),
+    ("report 1 6 0 9 0 9 0 9 19 3 1 3 9 9 9 0 1 2 3 0 2 0 9 9 9 9 9 9 0", "ok 1 0"),
+    ("audit 1 6 0 9 0 9 0 9 19 3 1 3 1 2 0 0 1 2 3 1 2 0 0 1 2 1 2 3", "ok yes"),
+    ("audit 1 6 0 9 0 9 0 9 19 3 1 3 1 2 0 0 1 2 3 65535 2 0 0 1 2 1 2 3", "ok no"),
+    ("audit 1 6 0 9 0 9 0 9 19 3 1 3 1 2 0 0 1 2 3 1 2 1 0 1 2 1 2 3", "ok no"),
+    ("audit 1 4 1 1 3 3 14 2 1 1 0 1 0 2 0 0 0 0 1 1 2", "ok yes"),
+    ("audit 1 4 1 1 3 3 14 2 1 1 0 1 0 2 0 0 1 0 1 1 2", "ok no"),
+];
 
 /// Looks a header up in the table that the build writes.
 pub fn look(out: &mut Lines, shape: impl Into<Shape>, list: &[u32], header: &Header) {
@@ -67,7 +99,7 @@ fn counts(out: &mut Lines) {
     }
 }
 
-/// The smallest candidate of all partitions: a later one may hold it, and all are walked.
+/// The smallest candidate: a later partition may hold it.
 fn partitions(out: &mut Lines) {
     let list = [0, 5, 3, 9, 6, 9, 0, 9, 10, 10, 0, 2];
     for number in 0..=11 {
@@ -158,7 +190,7 @@ fn dates(out: &mut Lines) {
 
 /// A table of two rules on two fields, in which place 1's run of field 0 reaches back over place 0: the walk at 1, 0 ends
 /// at place 0, whose field 0 it never tested.
-pub const WIDE_RUN: [u16; 16] = [2, 2, 1, 0, 1, 0, 2, 0, 0, 0, 0, 1, 1, 1, 2, 2];
+pub const WIDE_RUN: [u16; 18] = [2, 2, 1, 0, 1, 0, 2, 0, 0, 0, 0, 0, 0, 1, 1, 1, 2, 2];
 
 /// 02, W8: a date that is due in a field which the confirming comparison alone reads; and the day before.
 fn confirmed_dates(out: &mut Lines) {
@@ -220,11 +252,13 @@ fn altered_tables(out: &mut Lines) {
     all(two, &BENCH, &MARKED.map(|numbers| header_of(&numbers, 0)));
 }
 
-/// Reading 3: all b and starts of 0 to 3 for two rules on one field.
+/// Reading 3: all b and starts of 0 to 3 for two rules on one field; after a hit in partition 0 the next is visited, by its
+/// stored number, and then skipped.
 fn all_starts(out: &mut Lines) {
-    for code in 0..256u16 {
+    for code in 0..512u16 {
         let digit = |i: u16| code >> (2 * i) & 3;
-        out.lookup(1, &[1, 1, 3, 3], &[2, 1, digit(0), 0, 1, digit(1), digit(2), digit(3), 0, 1, 1, 2], &[1; 8]);
+        let head = [2, 1, digit(0), 0, 1, digit(1), digit(2), digit(3)];
+        out.lookup(1, &[1, 1, 3, 3], &[&head[..], &[0, digit(4), 0, 1, 1, 2]].concat(), &[1; 8]);
     }
 }
 
@@ -233,7 +267,7 @@ fn all_starts(out: &mut Lines) {
 fn all_runs(out: &mut Lines) {
     for code in 0..144u16 {
         let (from, to) = ([code % 3, code / 3 % 3], [code / 9 % 4, code / 36]);
-        let table = [2, 1, 1, 0, 1, 0, 2, 0, from[0], from[1], to[0], to[1]];
+        let table = [2, 1, 1, 0, 1, 0, 2, 0, 0, 0, from[0], from[1], to[0], to[1]];
         for number in [0, 1, 3, 4] {
             out.lookup(1, &[1, 1, 3, 3], &table, &header_of(&[number], 0));
         }
@@ -246,7 +280,7 @@ fn unsorted(out: &mut Lines) {
     let list = stairs(4, 1);
     for order in permutations(&[0, 1, 2, 3]) {
         let mut table = built(1, &list);
-        table[3..7].copy_from_slice(&order);
+        table[ORDER_AT..starts_at(4)].copy_from_slice(&order);
         for number in 0..=8 {
             out.lookup(1, &list, &table, &header_of(&[number], 0));
         }
@@ -254,9 +288,65 @@ fn unsorted(out: &mut Lines) {
     let list = [1, 1, 3, 3, 0, 4];
     for code in 0..64 {
         let mut table = built(1, &list);
-        table[3..6].copy_from_slice(&[code & 3, code >> 2 & 3, code >> 4]);
+        table[ORDER_AT..starts_at(3)].copy_from_slice(&[code & 3, code >> 2 & 3, code >> 4]);
         for number in [0, 1, 3, 5] {
             out.lookup(1, &list, &table, &header_of(&[number], 0));
+        }
+        // the second partition is not skipped
+        table[least_at(3)..run_from_at(3)].fill(0);
+        for number in [1, 3] {
+            out.lookup(1, &list, &table, &header_of(&[number], 0));
+        }
+    }
+}
+
+/// 02, W5: three rules that fit alike, each in a partition, in every order, so that a later number is smaller, greater, or
+/// both. Each partition is damaged in turn, in its place and in its start, with its own stored number, a lower and a
+/// greater one: skipped it refuses nothing, and visited 6, the last one too.
+fn skips(out: &mut Lines) {
+    let (n, list) = (3, twins(3, 1));
+    for run in permutations(&[0, 1, 2]) {
+        let table = laid(1, &list, &run);
+        for number in [7, 8] {
+            out.lookup(1, &list, &table, &[number; 8]);
+        }
+        for k in 0..n {
+            for broken in [with(&table, ORDER_AT + k, 3), with(&table, starts_at(n) + k, 3)] {
+                out.lookup(1, &list, &broken, &[7; 8]);
+                for number in [0, 1, 2, 3, 65535] {
+                    out.lookup(1, &list, &with(&broken, least_at(n) + k, number), &[7; 8]);
+                }
+            }
+        }
+    }
+}
+
+/// 02, W5: all small stored numbers, n and 65535, over minima that do not ascend; where every rule fits, and where a
+/// partition misses, so that there is no candidate yet.
+fn stored_numbers(out: &mut Lines) {
+    let numbers = [0, 1, 2, 3, 4, 65535];
+    for (list, run) in [([0, 9, 0, 9, 0, 9], [2, 0, 1]), ([0, 9, 5, 5, 0, 9], [1, 0, 2])] {
+        let mut table = laid(1, &list, &run);
+        for code in 0..216 {
+            let least = [numbers[code % 6], numbers[code / 6 % 6], numbers[code / 36]];
+            table[least_at(3)..run_from_at(3)].copy_from_slice(&least);
+            out.lookup(1, &list, &table, &header_of(&[7], 0));
+        }
+    }
+}
+
+/// 02, W5: a candidate that is not its partition's smallest number, and the best of several: with 5, one partition has 2,
+/// one has 5 and a smallest of 0, one has 3; the partitions come in every order.
+fn best_so_far(out: &mut Lines) {
+    let list = [0, 1, 20, 20, 0, 9, 0, 9, 30, 30, 5, 9];
+    for order in permutations(&[0, 1, 2]) {
+        let run = [1, 1, 0, 2, 1, 1].map(|k: usize| order[k]);
+        let table = laid(1, &list, &run);
+        for number in [0, 3, 5, 20, 30, 40] {
+            out.lookup(1, &list, &table, &header_of(&[number], 0));
+        }
+        for (k, least) in (0..3).flat_map(|k| (0..7).map(move |least| (k, least))) {
+            out.lookup(1, &list, &with(&table, least_at(6) + k, least), &header_of(&[5], 0));
         }
     }
 }
@@ -265,7 +355,7 @@ fn unsorted(out: &mut Lines) {
 fn low_above_high(out: &mut Lines) {
     for number in 0..=8 {
         let header = header_of(&[number, number], 0);
-        out.lookup(1, &[5, 3], &[1, 1, 1, 0, 0, 1, 0, 1], &header);
+        out.lookup(1, &[5, 3], &built(1, &[3, 5]), &header);
         out.lookup(1, &[1, 1, 5, 3, 7, 7], &built(1, &stairs(3, 1)), &header);
         out.lookup(1, &[3, 1, 7, 5], &built(1, &twins(2, 1)), &header);
         out.lookup(2, &[0, 9, 6, 2, 0, 9, 8, 7], &built(2, &[0, 9, 2, 6, 0, 9, 7, 8]), &header);
@@ -279,7 +369,7 @@ fn dates_of_no_day(out: &mut Lines) {
     for number in (0..=8).chain([TOP - 1, TOP]) {
         let header = header_of(&[number, number], 0);
         for void in [[5, 5], [7, 0], [0, 0], [TOP, TOP]] {
-            out.lookup(dated(1, 1), &void, &[1, 1, 1, 0, 0, 1, 0, 1], &header);
+            out.lookup(dated(1, 1), &void, &built(1, &[3, 5]), &header);
         }
         out.lookup(dated(1, 1), &[4, 5, 5, 5, 5, 9], &built(1, &stairs(3, 1)), &header);
         out.lookup(dated(1, ALL - 1), &[4, 5, 5, 5, 5, 9], &built(1, &stairs(3, 1)), &header);
@@ -303,6 +393,8 @@ fn refusals(out: &mut Lines) {
         at_zero(shape, &list, &right[..right.len() - 1]);
         at_zero(shape, &list, &[&right[..], &[0]].concat());
         at_zero(shape, &list, &[]);
+        // as long as 01 has it
+        at_zero(shape, &list, &right[..right.len() - 2]);
         at_zero(shape, &list[1..], &right);
         at_zero(shape, &[&list[..], &[7]].concat(), &right);
         // 5 before 6: short, and n wrong
@@ -314,17 +406,22 @@ fn refusals(out: &mut Lines) {
     at_zero(Shape::from(1), &long, &[]);
 }
 
-/// 1,024 rules: one partition of them, and 1,024 partitions.
+/// 1,024 rules: one partition of them, and 1,024 partitions, of which all but the first are skipped, and then none.
 fn many_rules(out: &mut Lines) {
     let list = stairs(1024, 1);
     for number in [0, 2047, 2048] {
         look(out, 1, &list, &[number; 8]);
     }
     look(out, 1, &twins(1024, 1), &[7; 8]);
+    let down: Vec<u16> = (0..1024).rev().collect();
+    out.lookup(1, &twins(1024, 1), &laid(1, &twins(1024, 1), &down), &[7; 8]);
     look(out, dated(8, ALL), &stairs(1024, 8), &[0; 8]);
 }
 
 pub fn edges(out: &mut Lines) {
+    for (line, _) in WORKED {
+        out.raw(line.as_bytes());
+    }
     marked(out);
     bench(out);
     counts(out);
@@ -340,6 +437,9 @@ pub fn edges(out: &mut Lines) {
     all_starts(out);
     all_runs(out);
     unsorted(out);
+    skips(out);
+    stored_numbers(out);
+    best_so_far(out);
     low_above_high(out);
     dates_of_no_day(out);
     refusals(out);

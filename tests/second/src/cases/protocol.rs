@@ -7,12 +7,12 @@ use crate::seed::Seed;
 pub const GOOD: [&str; 12] = [
     "check 1 4 1 2 3 4",
     "scan 1 4 1 2 3 4 3 0 0 0 0 0 0 0",
-    "build 1 2 5 6 8 9 9 9 9 9 9 9 9",
+    "build 1 2 5 6 9 7 7 7 7 7 7 7 7 7",
     "choose 1 4 1 2 2 4 2 9 9",
-    "layout 1 2 5 6 1 0 8 9 9 9 9 9 9 9 9",
-    "lookup 1 2 5 6 8 1 1 1 0 0 1 0 1 5 0 0 0 0 0 0 0",
-    "audit 1 2 5 6 8 1 1 1 0 0 1 0 1",
-    "report 1 2 5 6 8 1 1 1 0 0 1 0 1 0",
+    "layout 1 2 5 6 1 0 9 7 7 7 7 7 7 7 7 7",
+    "lookup 1 2 5 6 9 1 1 1 0 0 1 0 0 1 5 0 0 0 0 0 0 0",
+    "audit 1 2 5 6 9 1 1 1 0 0 1 0 0 1",
+    "report 1 2 5 6 9 1 1 1 0 0 1 0 0 1 0",
     "independent 1 4 1 2 2 4",
     "side 2 1 5 9 7",
     "p2r 16 2 5",
@@ -21,7 +21,7 @@ pub const GOOD: [&str; 12] = [
 
 /// 02, W8: lines with dates, and their answers as they were worked out by hand.
 pub const WORKED: [(&str, &str); 6] = [
-    ("build 1:10000000 4 1 5 5 9 12 0 0 0 0 0 0 0 0 0 0 0 0", "ok 1 table 2 1 1 0 1 0 2 0 0 1 1 2"),
+    ("build 1:10000000 4 1 5 5 9 14 9 9 9 9 9 9 9 9 9 9 9 9 9 9", "ok 1 table 2 1 1 0 1 0 2 0 0 0 0 1 1 2"),
     ("check 1:10000000 2 5 5", "refused 4 0 0"),
     ("check 1:01111111 2 5 5", "ok 1"),
     ("independent 1:10000000 4 1 5 5 9", "ok yes"),
@@ -172,8 +172,8 @@ fn limits(out: &mut Lines) {
     let zeros = |length: usize| counted(&vec![0; length]);
     out.raw(format!("check 8 {}", zeros(16500)).as_bytes());
     out.raw(format!("check 8 {}", zeros(16501)).as_bytes());
-    out.raw(format!("build 1 0 {}", zeros(18500)).as_bytes());
-    out.raw(format!("build 1 0 {}", zeros(18501)).as_bytes());
+    out.raw(format!("build 1 0 {}", zeros(19500)).as_bytes());
+    out.raw(format!("build 1 0 {}", zeros(19501)).as_bytes());
     out.raw(format!("r2p 0 0 5 {}", zeros(200)).as_bytes());
     out.raw(format!("r2p 0 0 5 {}", zeros(201)).as_bytes());
     for length in [1100, 1101] {
@@ -181,14 +181,14 @@ fn limits(out: &mut Lines) {
         out.raw(format!("layout 1 0 {} {}", zeros(length), zeros(4)).as_bytes());
     }
     // every part at the most that is held, and each in turn past it
-    for (list, run, table) in [(16500, 1100, 18500), (16501, 1100, 18500), (16500, 1101, 18500), (16500, 1100, 18501)] {
+    for (list, run, table) in [(16500, 1100, 19500), (16501, 1100, 19500), (16500, 1101, 19500), (16500, 1100, 19501)] {
         out.raw(format!("layout 8 {} {} {}", zeros(list), zeros(run), zeros(table)).as_bytes());
     }
     for length in ["200", "201", "1100", "1101", "65536", "65537", "4294967295", "4294967296"] {
         out.raw(format!("choose 1 2 5 6 {}", length).as_bytes());
         out.raw(format!("choose 1 2 5 6 {} 0", length).as_bytes());
-        out.raw(format!("layout 1 2 5 6 {} 0 8 9 9 9 9 9 9 9 9", length).as_bytes());
-        out.raw(format!("layout 1 2 5 6 1 0 {} 9 9 9 9 9 9 9 9", length).as_bytes());
+        out.raw(format!("layout 1 2 5 6 {} 0 9 7 7 7 7 7 7 7 7 7", length).as_bytes());
+        out.raw(format!("layout 1 2 5 6 1 0 {} 7 7 7 7 7 7 7 7 7", length).as_bytes());
     }
     for length in ["16500", "16501", "65536", "4294967295", "4294967296"] {
         out.raw(format!("check 1 {}", length).as_bytes());
@@ -201,8 +201,8 @@ fn limits(out: &mut Lines) {
         out.raw(format!("audit 1 0 4 0 1 0 {}", number).as_bytes());
         out.raw(format!("choose 1 2 5 6 1 {}", number).as_bytes());
         out.raw(format!("choose 1 2 5 6 2 0 {}", number).as_bytes());
-        out.raw(format!("layout 1 2 5 6 1 {} 8 9 9 9 9 9 9 9 9", number).as_bytes());
-        out.raw(format!("layout 1 2 5 6 1 0 8 9 9 9 9 9 9 9 {}", number).as_bytes());
+        out.raw(format!("layout 1 2 5 6 1 {} 9 7 7 7 7 7 7 7 7 7", number).as_bytes());
+        out.raw(format!("layout 1 2 5 6 1 0 9 7 7 7 7 7 7 7 7 {}", number).as_bytes());
         out.raw(format!("lookup 1 0 4 0 1 0 {} 0 0 0 0 0 0 0 0", number).as_bytes());
     }
     out.raw(b"build 1 0 0");

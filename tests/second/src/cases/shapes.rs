@@ -68,6 +68,11 @@ pub fn grid(d: u32) -> Vec<u32> {
     (0..1u32 << d).flat_map(|i| (0..d).flat_map(move |f| field(i, f))).collect()
 }
 
+/// How many rules a list of the right length has.
+pub fn rules_in(shape: Shape, list: &[u32]) -> usize {
+    list.len() / (2 * shape.d as usize)
+}
+
 /// All ranges within 0 to top, both counted.
 pub fn all_ranges(top: u32) -> Vec<[u32; 2]> {
     (0..=top).flat_map(|low| (low..=top).map(move |high| [low, high])).collect()
@@ -148,6 +153,13 @@ pub fn filled(length: usize) -> Vec<u16> {
     (0..length).map(|i| ((7 * i + 3) % 10) as u16).collect()
 }
 
+/// The table with one number written over.
+pub fn with(table: &[u16], at: usize, number: u16) -> Vec<u16> {
+    let mut other = table.to_vec();
+    other[at] = number;
+    other
+}
+
 /// The table with each single number altered in turn: to 0, to n, to 65535, and by one either way.
 pub fn altered(table: &[u16], n: usize) -> Vec<Vec<u16>> {
     let mut tables = Vec::new();
@@ -156,11 +168,7 @@ pub fn altered(table: &[u16], n: usize) -> Vec<Vec<u16>> {
         let mut others = vec![0, n as u16, 65535, old.wrapping_add(1), old.wrapping_sub(1)];
         others.sort();
         others.dedup();
-        for other in others.into_iter().filter(|other| *other != old) {
-            let mut next = table.to_vec();
-            next[i] = other;
-            tables.push(next);
-        }
+        tables.extend(others.into_iter().filter(|other| *other != old).map(|other| with(table, i, other)));
     }
     tables
 }

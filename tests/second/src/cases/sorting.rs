@@ -3,12 +3,13 @@
 use super::characters::{dated_list, drawn_shape, spoiled_list, turned};
 use super::lines::Lines;
 use super::shapes::{
-    all_lists, altered, as_dates, built, chain, dated, filled, grid, nested, permutations, reversed, stairs, twins,
-    unwritten, ALL, BENCH, ODD_FIELDS, TOP,
+    all_lists, altered, as_dates, built, chain, dated, filled, grid, laid, nested, permutations, reversed, stairs,
+    twins, unwritten, with, ALL, BENCH, ODD_FIELDS, TOP,
 };
 use super::tables::{damage, looks_right};
 use crate::lists::Shape;
 use crate::seed::Seed;
+use crate::table::{least_at, run_from_at, starts_at, table_length, ORDER_AT};
 
 /// Builds into a table of the right length that holds other numbers.
 pub fn build(out: &mut Lines, shape: impl Into<Shape>, list: &[u32]) {
@@ -114,7 +115,7 @@ fn many_rules(out: &mut Lines) {
     out.audit(1, &list, &table);
     out.report(1, &list, &table, 1023);
     out.report(1, &list, &table, 1024);
-    table[4099] -= 1;
+    *table.last_mut().unwrap() -= 1;
     out.audit(1, &list, &table);
 }
 
@@ -169,6 +170,33 @@ fn reports(out: &mut Lines, shape: Shape, list: &[u32]) {
     }
 }
 
+/// 02, W5: a report answers the stored number, where it is less than n, and 6 else, in its own partition alone; it reads
+/// no place, though every one holds 65535.
+fn stored_numbers(out: &mut Lines) {
+    for (d, list, run) in [
+        (2, BENCH.to_vec(), vec![2, 2, 2, 0, 1]),
+        (1, twins(3, 1), vec![2, 0, 1]),
+        (1, stairs(3, 1), vec![0, 0, 0]),
+        (1, vec![4, 6], vec![0]),
+    ] {
+        let (n, table) = (run.len(), laid(d, &list, &run));
+        let b = table[2] as u32;
+        for at in least_at(n)..run_from_at(n) {
+            for number in [0, 1, n as u16 - 1, n as u16, n as u16 + 1, 256, 32768, 65535] {
+                for p in 0..=b {
+                    out.report(d, &list, &with(&table, at, number), p);
+                }
+            }
+        }
+        let mut unread = table;
+        unread[ORDER_AT..starts_at(n)].fill(65535);
+        unread[run_from_at(n)..].fill(65535);
+        for p in 0..=b {
+            out.report(d, &list, &unread, p);
+        }
+    }
+}
+
 /// 1 to 5 of all three calls in their order; the report never gives 4.
 fn refusals(out: &mut Lines) {
     let mut all = |shape: Shape, list: &[u32], table: &[u16]| {
@@ -188,6 +216,8 @@ fn refusals(out: &mut Lines) {
         all(shape, &list, &right[..right.len() - 1]);
         all(shape, &list, &[&right[..], &[0]].concat());
         all(shape, &list, &[]);
+        // as long as 01 has it
+        all(shape, &list, &right[..right.len() - 2]);
         all(shape, &list[1..], &right);
         all(shape, &[&list[..], &[7]].concat(), &right);
         // 4 and then 5; a report takes this list
@@ -201,13 +231,13 @@ fn refusals(out: &mut Lines) {
         all(dated(d, 1 << (d - 1)), &turned, &right[1..]);
         all(dated(d, 1 << (d % 8)), &turned, &right);
     }
-    let bench = Shape::from(2);
-    all(bench, &BENCH, &filled(33));
-    all(bench, &BENCH, &filled(34));
-    all(bench, &BENCH, &filled(35));
+    let (bench, right) = (Shape::from(2), table_length(5, 2));
+    for length in [right - 1, right, right + 1, right - 5] {
+        all(bench, &BENCH, &filled(length));
+    }
     // the table that a list of one rule less or more would have
-    all(bench, &BENCH, &filled(28));
-    all(bench, &BENCH, &filled(40));
+    all(bench, &BENCH, &unwritten(4, 2));
+    all(bench, &BENCH, &unwritten(6, 2));
     all(Shape::from(1), &twins(1025, 1), &[]);
     // 2 before 3 before 4 before 5
     let mut long = twins(1025, 1);
@@ -227,6 +257,7 @@ pub fn edges(out: &mut Lines) {
     many_rules(out);
     small_built(out, audits);
     small_built(out, reports);
+    stored_numbers(out);
     other_flags(out);
     refusals(out);
 }

@@ -1,16 +1,20 @@
 //! The lines that are stored with the crate `calls`, so that `rt` alone holds the proved program to them: B1 to B12,
-//! each word in good cases, with dates too, each refusal of each word in its order, faults of a line, and the edges that
-//! 01 names. They are few; the edges of all kinds are compared by tests/run.
+//! each word in good cases, with dates too, each refusal of each word in its order, partitions that are skipped, faults of
+//! a line, and the edges that 01 names. They are few; the edges of all kinds are compared by tests/run.
 
 use super::choices::{self, choose, lay, renumbered};
 use super::lines::Lines;
 use super::lists::three;
-use super::lookup::{look, MARKED, WIDE_RUN};
+use super::lookup::{self, look, MARKED, WIDE_RUN};
 use super::prefixes::{self, into_runs, lent};
 use super::protocol::{replaced, GOOD, WORKED};
-use super::shapes::{built, chain, chosen, dated, header_of, laid, nested, reversed, stairs, twins, ALL, BENCH, TOP};
+use super::shapes::{
+    built, chain, chosen, dated, header_of, laid, nested, reversed, stairs, twins, with, ALL, BENCH, TOP,
+};
 use super::sorting::build;
+use super::tables::with_least;
 use crate::lists::Shape;
+use crate::table::{least_at, run_from_at, run_to_at, starts_at, ORDER_AT};
 
 /// B1 to B12; B9 with several headers, B12 with the way back.
 fn marked(out: &mut Lines) {
@@ -115,7 +119,7 @@ fn brought_choices(out: &mut Lines) {
         out.raw(line.as_bytes());
     }
     let list = [7, 7, 7, 7, 8, 8];
-    out.layout(1, &list, &[3, 3, 0, 0], &[0; 15]);
+    out.layout(1, &list, &[3, 3, 0, 0], &[0; 18]);
     for run in [&[3, 3, 0, 0][..], &[3, 3, 0], &[2, 2, 0], &[1, 1, 0], &[2, 1, 0]] {
         lay(out, 1, &list, run);
     }
@@ -128,17 +132,26 @@ fn brought_choices(out: &mut Lines) {
     lay(out, 2, &BENCH, &[1, 0, 1, 2, 1]);
 }
 
-/// 02, W4: audits of choices that are brought: a start that moves to another choice's place, partitions in another order;
-/// a clash, an empty partition, an order that is not ascending, a rule twice, and numbers behind the last start.
+/// 02, W4: audits of choices that are brought: a start that moves to another choice's place, with its smallest number and
+/// without, partitions in another order; a clash, an empty partition, an order that is not ascending, a rule twice, and
+/// numbers behind the last start; 02, W5: of a partition's smallest number, and behind the last one.
 fn brought_tables(out: &mut Lines) {
-    let list = stairs(3, 1);
+    let (n, list) = (3, stairs(3, 1));
     for run in [[0, 0, 0], [0, 1, 1], [1, 0, 0], [2, 1, 0]] {
         out.audit(1, &list, &laid(1, &list, &run));
         out.lookup(1, &list, &laid(1, &list, &run), &[4; 8]);
     }
-    for (at, number) in [(3, 1), (7, 0), (7, 2), (7, 3), (9, 3), (11, 0), (14, 3)] {
-        out.audit(1, &list, &with(&laid(1, &list, &[0, 1, 1]), at, number));
+    let (table, starts, least) = (laid(1, &list, &[0, 1, 1]), starts_at(n), least_at(n));
+    let of_starts = [(starts + 1, 0), (starts + 1, 2), (starts + 1, 3), (starts + 3, 3)];
+    let of_least = [(least, 1), (least + 1, 0), (least + 1, 2), (least + 2, 2)];
+    let of_places = [(ORDER_AT, 1), (run_from_at(n) + 1, 0), (run_to_at(n, 1) + 1, 3)];
+    for (at, number) in [&of_starts[..], &of_least, &of_places].concat() {
+        out.audit(1, &list, &with(&table, at, number));
     }
+    out.audit(1, &list, &with(&with(&table, starts + 1, 2), least + 1, 2));
+    // the rule that goes over to partition 0 is the smallest of neither
+    let other = [0, 1, 4, 5, 2, 3];
+    out.audit(1, &other, &with(&laid(1, &other, &[0, 1, 1]), starts + 1, 2));
     for (b, order, starts) in [
         (1, [1, 0, 2], [0, 3, 0, 0]),
         (2, [2, 0, 1], [0, 1, 3, 0]),
@@ -149,7 +162,23 @@ fn brought_tables(out: &mut Lines) {
         (4, [0, 1, 2], [0, 1, 2, 3]),
         (65535, [0, 1, 2], [0, 1, 2, 3]),
     ] {
-        out.audit(1, &list, &[&[3, 1, b][..], &order, &starts, &[0, 1, 2, 1, 2, 3]].concat());
+        let head = [&[3, 1, b][..], &order, &starts].concat();
+        out.audit(1, &list, &[&with_least(&head)[..], &[0, 1, 2, 1, 2, 3]].concat());
+    }
+}
+
+/// 02, W5: lines worked by hand; the largest number that stands in a report, the next, and what stands past b.
+fn stored_numbers(out: &mut Lines) {
+    for (line, _) in lookup::WORKED {
+        out.raw(line.as_bytes());
+    }
+    let (list, table) = (stairs(3, 1), laid(1, &stairs(3, 1), &[0, 1, 1]));
+    for (at, number) in [(0, 0), (1, 0), (1, 2), (1, 3), (2, 65535)] {
+        let other = with(&table, least_at(3) + at, number);
+        for p in 0..=2 {
+            out.report(1, &list, &other, p);
+        }
+        out.lookup(1, &list, &other, &[0; 8]);
     }
 }
 
@@ -180,18 +209,11 @@ fn many_rules(out: &mut Lines) {
     out.report(1, &each, &built(1, &each), 1023);
 }
 
-/// The table with one number written over.
-fn with(table: &[u16], at: usize, number: u16) -> Vec<u16> {
-    let mut other = table.to_vec();
-    other[at] = number;
-    other
-}
-
 /// 6 for the opening: n, d, b, the first start, start b. It comes before 7; an audit says no.
 fn broken_openings(out: &mut Lines) {
     let list = [1, 1, 7, 7];
-    let table = built(1, &list);
-    for (at, number) in [(0, 1), (1, 2), (2, 0), (2, 3), (5, 1), (6, 1), (6, 3)] {
+    let (table, starts) = (built(1, &list), starts_at(2));
+    for (at, number) in [(0, 1), (1, 2), (2, 0), (2, 3), (starts, 1), (starts + 1, 1), (starts + 1, 3)] {
         let broken = with(&table, at, number);
         out.audit(1, &list, &broken);
         out.lookup(1, &list, &broken, &[7; 8]);
@@ -200,13 +222,15 @@ fn broken_openings(out: &mut Lines) {
     }
 }
 
-/// 6 for a partition: its start, and the next one. A report comes to it after 7, and for its own partition alone.
+/// 6 for a partition: its start, and the next one. A lookup comes to it where it is not skipped, a report after 7, and for
+/// its own partition alone.
 fn broken_partitions(out: &mut Lines) {
     let list = twins(3, 1);
     let table = built(1, &list);
-    for (at, number) in [(7, 0), (7, 3), (7, 4), (8, 1)] {
-        let broken = with(&table, at, number);
+    for (k, number) in [(1, 0), (1, 3), (1, 4), (2, 1)] {
+        let broken = with(&table, starts_at(3) + k, number);
         out.lookup(1, &list, &broken, &[7; 8]);
+        out.lookup(1, &list, &with(&broken, least_at(3) + 1, 0), &[7; 8]);
         for p in 0..=3 {
             out.report(1, &list, &broken, p);
         }
@@ -216,12 +240,13 @@ fn broken_partitions(out: &mut Lines) {
     }
 }
 
-/// 6 at a step, where the walk comes to it: the rule number at mid, and both ends of its run. A report reads no run.
+/// 6 at a step, where the walk comes to it: the rule number at mid, and both ends of its run. A report reads no place.
 fn broken_steps(out: &mut Lines) {
     let list = [1, 1, 3, 3, 5, 5];
-    let table = built(1, &list);
-    // the order from 3, run-from from 10 and run-to from 13 on, by place
-    for (at, number) in [(4, 3), (4, 65535), (11, 2), (12, 1), (12, 3), (13, 0), (13, 2), (14, 1), (14, 4)] {
+    let (table, from, to) = (built(1, &list), run_from_at(3), run_to_at(3, 1));
+    let of_order = [(ORDER_AT + 1, 3), (ORDER_AT + 1, 65535)];
+    let of_runs = [(from + 1, 2), (from + 2, 1), (from + 2, 3), (to, 0), (to, 2), (to + 1, 1), (to + 1, 4)];
+    for (at, number) in [&of_order[..], &of_runs].concat() {
         let broken = with(&table, at, number);
         for number in [2, 3, 4] {
             out.lookup(1, &list, &broken, &header_of(&[number], 0));
@@ -232,12 +257,12 @@ fn broken_steps(out: &mut Lines) {
 
 /// 6 at field d: a group of two places, of which both rules fit; a rule that does not fit in the field before the last.
 fn broken_ends(out: &mut Lines) {
-    out.lookup(1, &[1, 3, 0, 4], &[2, 1, 1, 0, 1, 0, 2, 0, 0, 0, 2, 2], &header_of(&[2], 0));
+    out.lookup(1, &[1, 3, 0, 4], &[2, 1, 1, 0, 1, 0, 2, 0, 0, 0, 0, 0, 2, 2], &header_of(&[2], 0));
     let list = [1, 1, 7, 7, 2, 2, 7, 7, 3, 3, 7, 7];
     let table = built(2, &list);
     // the run of place 1 in field 0 reaches over place 2, whose rule is then the one tested in field 1
     for model in [1, 2, 3] {
-        out.lookup(2, &list, &with(&table, 18, 3), &header_of(&[model, 7], 0));
+        out.lookup(2, &list, &with(&table, run_to_at(3, 2) + 2, 3), &header_of(&[model, 7], 0));
     }
 }
 
@@ -373,14 +398,14 @@ const FAULTY: [&[u8]; 32] = [
     b"check 1 2 7 :",
     b"check 1 2 7 +7",
     b"check 1 16501",
-    b"build 1 0 18501",
+    b"build 1 0 19501",
     b"r2p 0 0 5 4294967295",
     b"p2r 0 0 4294967296",
     b"audit 1 0 4 0 1 0 65536",
     b"lay_out 1 0 0 4 0 0 0 0",
     b"choose 1 0 1101",
     b"choose 1 2 5 6 1 65536",
-    b"layout 1 2 5 6 1 65536 8 9 9 9 9 9 9 9 9",
+    b"layout 1 2 5 6 1 65536 9 7 7 7 7 7 7 7 7 7",
     b"check 1:0000000 0",
     b"check 1:000000000 0",
     b"check 1:00000002 0",
@@ -429,6 +454,7 @@ pub fn lines(out: &mut Lines) {
     refusals(out);
     brought_choices(out);
     brought_tables(out);
+    stored_numbers(out);
     places_of_4(out);
     many_rules(out);
     broken_openings(out);

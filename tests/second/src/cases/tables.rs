@@ -4,7 +4,7 @@
 use crate::lists::{rules_of, Shape};
 use crate::seed::Seed;
 use crate::sorting::{standing, Standing};
-use crate::table::table_length;
+use crate::table::{least_at, run_from_at, starts_at, table_length, ORDER_AT};
 
 /// A choice that the laying out takes: each rule, in a drawn order, goes into a drawn partition in which it clashes with no
 /// member, or opens one, as it must or now and then; then the partitions are numbered in a drawn order.
@@ -62,10 +62,18 @@ fn drawn_number(seed: &mut Seed, n: usize) -> u16 {
     }
 }
 
+/// Where one number of a table of n rules stands: any, and one in four a smallest rule number of its partitions.
+fn drawn_place(seed: &mut Seed, table: &[u16], n: usize) -> usize {
+    if n > 0 && seed.once_in(4) {
+        return least_at(n) + seed.below((table[2] as usize).clamp(1, n));
+    }
+    seed.below(table.len())
+}
+
 /// Alters up to three numbers, or swaps two.
 pub fn damage(seed: &mut Seed, table: &mut [u16], n: usize) {
     for _ in 0..1 + seed.below(3) {
-        let at = seed.below(table.len());
+        let at = drawn_place(seed, table, n);
         match seed.below(4) {
             0 => table[at] = drawn_number(seed, n),
             1 => table[at] = table[at].wrapping_add(1),
@@ -76,6 +84,21 @@ pub fn damage(seed: &mut Seed, table: &mut [u16], n: usize) {
             }
         }
     }
+}
+
+/// The first parts of a table, up to its starts, and then the smallest rule numbers that they call for: of a partition the
+/// smallest that stands in its places, and 0 where it has none, or places that are not there.
+pub fn with_least(head: &[u16]) -> Vec<u16> {
+    let n = (head.len() - 4) / 2;
+    let (order, starts) = (&head[ORDER_AT..starts_at(n)], &head[starts_at(n)..]);
+    let least = |k: usize| {
+        let places = order.get(starts[k] as usize..starts[k + 1] as usize);
+        places.and_then(|places| places.iter().min().copied()).unwrap_or(0)
+    };
+    let b = (head[2] as usize).min(n);
+    let mut table = [head, &(0..b).map(least).collect::<Vec<u16>>()].concat();
+    table.resize(run_from_at(n), 0);
+    table
 }
 
 /// Strictly ascending starts from 0 to n for a drawn number of partitions.
@@ -89,8 +112,9 @@ fn drawn_starts(seed: &mut Seed, n: usize) -> Vec<usize> {
     starts
 }
 
-/// A table whose starts are right; its order is drawn, now and then with a rule twice; its runs mostly hold their
-/// place, lie within their partition, shrink from field to field, and mostly end as one place.
+/// A table whose starts are right; its order is drawn, now and then with a rule twice; its smallest rule numbers are those
+/// of its places, or all 0, so that nothing is skipped, or drawn; its runs mostly hold their place, lie within their
+/// partition, shrink from field to field, and mostly end as one place.
 pub fn looks_right(seed: &mut Seed, n: usize, d: usize) -> Vec<u16> {
     let starts = drawn_starts(seed, n);
     let b = starts.len() - 1;
@@ -117,7 +141,14 @@ pub fn looks_right(seed: &mut Seed, n: usize, d: usize) -> Vec<u16> {
     }
     let mut padded = starts;
     padded.resize(n + 1, 0);
-    let table: Vec<u16> = [vec![n, d, b], order, padded, run_from, run_to].concat().iter().map(|x| *x as u16).collect();
+    let short = |numbers: &[usize]| numbers.iter().map(|x| *x as u16).collect::<Vec<u16>>();
+    let mut table = with_least(&short(&[vec![n, d, b], order, padded].concat()));
+    match seed.below(4) {
+        0 => table[least_at(n)..].fill(0),
+        1 => table[least_at(n)..].iter_mut().for_each(|number| *number = drawn_number(seed, n)),
+        _ => (),
+    }
+    table.extend(short(&[run_from, run_to].concat()));
     assert_eq!(table.len(), table_length(n, d));
     table
 }

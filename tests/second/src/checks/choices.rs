@@ -8,22 +8,19 @@ use crate::calls::answer;
 use crate::cases::characters::{dated_list, drawn_header, spoiled_list};
 use crate::cases::choices::{call_with, renumbered, WORKED};
 use crate::cases::shapes::{
-    all_choices, all_lists, all_runs, as_dates, built, chain, dated, filled, grid, laid, nested, reversed, stairs,
-    twins, unwritten, ALL, BENCH,
+    all_choices, all_lists, all_runs, as_dates, built, chain, dated, filled, grid, laid, nested, reversed, rules_in,
+    stairs, twins, unwritten, with, ALL, BENCH,
 };
-use crate::cases::tables::{drawn_choice, spoiled_run};
+use crate::cases::tables::{drawn_choice, spoiled_run, with_least};
 use crate::choices::choose;
 use crate::lists::{check, rules_of, scan, Rule, Shape};
 use crate::lookup::lookup;
 use crate::ranges::holds;
 use crate::refusal::{refuse, Refusal};
 use crate::seed::Seed;
-use crate::table::{audit, build, lay_out, open, run_off, table_length};
-
-/// How many rules a list has.
-fn rules_in(shape: Shape, list: &[u32]) -> usize {
-    list.len() / (2 * shape.d as usize)
-}
+use crate::table::{
+    audit, build, lay_out, least_at, open, run_from_at, run_off, run_to_at, starts_at, table_length, ORDER_AT,
+};
 
 #[test]
 fn lines_that_were_worked_by_hand() {
@@ -234,11 +231,7 @@ fn written(shape: Shape, list: &[u32]) -> BTreeSet<Vec<u16>> {
 fn near(table: &[u16], n: usize) -> Vec<Vec<u16>> {
     let mut tables = Vec::new();
     for i in 0..table.len() {
-        for number in (0..n as u16 + 2).chain([65535]) {
-            let mut other = table.to_vec();
-            other[i] = number;
-            tables.push(other);
-        }
+        tables.extend((0..n as u16 + 2).chain([65535]).map(|number| with(table, i, number)));
         for j in 0..i {
             let mut other = table.to_vec();
             other.swap(i, j);
@@ -248,9 +241,10 @@ fn near(table: &[u16], n: usize) -> Vec<Vec<u16>> {
     tables
 }
 
-/// One table with a part of another: each table up to the end of its head, its order, its starts or its run-froms.
-fn joined(one: &[u16], other: &[u16], n: usize, d: usize) -> [Vec<u16>; 4] {
-    [3, 3 + n, 4 + 2 * n, 4 + 2 * n + n * d].map(|cut| [&one[..cut], &other[cut..]].concat())
+/// One table with a part of another: each table up to where its order, starts, smallest numbers, run-from or run-to begins.
+fn joined(one: &[u16], other: &[u16], n: usize, d: usize) -> [Vec<u16>; 5] {
+    let cuts = [ORDER_AT, starts_at(n), least_at(n), run_from_at(n), run_to_at(n, d)];
+    cuts.map(|cut| [&one[..cut], &other[cut..]].concat())
 }
 
 /// The audit says yes to exactly the tables that some run makes the laying out write: those of this list, tables near to
@@ -316,17 +310,24 @@ fn audited(shape: Shape, list: &[u32], tables: impl Iterator<Item = Vec<u16>>) -
 fn the_audit_of_all_tables_of_small_numbers_is_what_trying_all_runs_says() {
     // no rule and one: every number is 0 to 3, or 0 to 2
     assert_eq!(audited(Shape::from(2), &[], all_runs(4, 3).into_iter()), 1);
-    assert_eq!(audited(Shape::from(1), &[4, 6], all_runs(8, 2).into_iter()), 1);
+    assert_eq!(audited(Shape::from(1), &[4, 6], all_runs(9, 2).into_iter()), 1);
     // two rules: n and d stand, and every other number is 0 to 2
     for (list, yes) in [([1, 1, 3, 3], 3), ([3, 3, 1, 1], 3), ([7, 7, 7, 7], 2), ([0, 5, 3, 9], 2)] {
-        let tables = all_runs(10, 2).into_iter().map(|numbers| [&[2, 1], &numbers[..]].concat());
+        let tables = all_runs(12, 2).into_iter().map(|numbers| [&[2, 1], &numbers[..]].concat());
         assert_eq!(audited(Shape::from(1), &list, tables), yes);
     }
-    // three rules: all numbers of partitions, orders and starts of 0 to 3, and the runs that every choice has
+    // three rules: all numbers of partitions, orders and starts of 0 to 3, and the runs that every choice has; the smallest
+    // numbers that the rest calls for, and for each choice all of 0 to 3
     for (list, yes) in [(stairs(3, 1), 13), (vec![0, 5, 3, 9, 6, 9], 8), (twins(3, 1), 6)] {
         let runs = [0, 1, 2, 1, 2, 3];
-        let tables = all_runs(8, 3).into_iter().map(|numbers| [&[3, 1], &numbers[..], &runs].concat());
+        let head = |numbers: Vec<u16>| with_least(&[&[3, 1], &numbers[..]].concat());
+        let tables = all_runs(8, 3).into_iter().map(|numbers| [&head(numbers)[..], &runs].concat());
         assert_eq!(audited(Shape::from(1), &list, tables), yes);
+        let head = |run: Vec<u16>| laid(1, &list, &run)[..least_at(3)].to_vec();
+        let heads: Vec<Vec<u16>> = all_choices(1, &list).into_iter().map(head).collect();
+        let with_all =
+            |least: Vec<u16>| heads.iter().map(|head| [&head[..], &least, &runs].concat()).collect::<Vec<_>>();
+        assert_eq!(audited(Shape::from(1), &list, all_runs(3, 3).into_iter().flat_map(with_all)), yes);
     }
 }
 
@@ -346,19 +347,25 @@ fn the_audit_under_other_lists_is_what_trying_all_runs_says() {
 
 #[test]
 fn a_start_may_move_to_another_choice() {
-    let (one, list) = (Shape::from(1), stairs(3, 1));
-    let (table, mut moved) = (laid(1, &list, &[0, 1, 1]), laid(1, &list, &[0, 1, 1]));
-    moved[7] = 2;
-    assert_eq!(moved, laid(1, &list, &[0, 0, 1]));
+    let (one, starts, least) = (Shape::from(1), starts_at(3), least_at(3));
+    // the rule that goes over to partition 0 is the smallest of neither
+    let list = [0, 1, 4, 5, 2, 3];
+    let (table, moved) = (laid(1, &list, &[0, 1, 1]), laid(1, &list, &[0, 1, 0]));
+    assert_eq!(with(&table, starts + 1, 2), moved);
     assert_eq!((audit(one, &list, &table), audit(one, &list, &moved)), (Ok(true), Ok(true)));
+    // here it was partition 1's smallest, whose number moves with it
+    let list = stairs(3, 1);
+    let moved = with(&laid(1, &list, &[0, 1, 1]), starts + 1, 2);
+    assert_eq!(audit(one, &list, &moved), Ok(false));
+    let moved = with(&moved, least + 1, 2);
+    assert_eq!(moved, laid(1, &list, &[0, 0, 1]));
+    assert_eq!(audit(one, &list, &moved), Ok(true));
     // the rules of places 1 and 2 are not in order here, so the start between them stays
     let list = reversed(1, &list);
-    let mut table = laid(1, &list, &[0, 1, 2]);
+    let table = laid(1, &list, &[0, 1, 2]);
     assert_eq!(audit(one, &list, &table), Ok(true));
-    table[2] = 2;
-    table[8] = 3;
-    table[9] = 0;
-    assert_eq!(audit(one, &list, &table), Ok(false));
+    let head = [3, 1, 2, 0, 1, 2, 0, 1, 3, 0];
+    assert_eq!(audit(one, &list, &[&with_least(&head)[..], &table[run_from_at(3)..]].concat()), Ok(false));
 }
 
 #[test]

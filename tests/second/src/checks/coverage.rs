@@ -3,7 +3,9 @@
 use std::collections::BTreeSet;
 
 use crate::calls::answer;
+use crate::cases::lines::Lines;
 use crate::cases::{drawn, edges, stored};
+use crate::table::{least_at, run_from_at, table_length};
 
 const KINDS: [&str; 7] = ["ranges", "prefixes", "lists", "sorting", "choices", "lookup", "protocol"];
 
@@ -105,6 +107,48 @@ fn audits_of_choices_are_yes_and_no_and_lookups_hit_and_miss() {
     }
 }
 
+/// The line of a lookup with all of its table's smallest rule numbers 0, so that no partition is skipped; or none where its
+/// parts are not of their lengths.
+fn without_skips(line: &[u8]) -> Option<String> {
+    let line = String::from_utf8(line.to_vec()).ok()?;
+    let mut words: Vec<&str> = line.split(' ').collect();
+    let number = |i: usize| words.get(i)?.split(':').next()?.parse::<usize>().ok();
+    let (d, numbers) = (number(1)?, number(2)?);
+    let (n, table) = (numbers / (2 * d.clamp(1, 8)), 4 + numbers);
+    if d > 8 || number(table - 1)? != table_length(n, d) {
+        return None;
+    }
+    words.get_mut(table + least_at(n)..table + run_from_at(n))?.fill("0");
+    Some(words.join(" "))
+}
+
+/// How many of these lookups skip tests, how many a partition that is damaged, and how many a better rule.
+fn skips_of(lines: &Lines) -> [usize; 3] {
+    let lookups = lines.lines.iter().filter(|line| line.starts_with(b"lookup "));
+    let both = |line: &Vec<u8>| Some((answer(line), answer(without_skips(line)?.as_bytes())));
+    let [mut tests, mut damage, mut rules] = [0; 3];
+    for (said, all) in lookups.filter_map(both).filter(|(said, all)| word(said, 0) == "ok" && said != all) {
+        if word(&all, 0) == "refused" {
+            damage += 1;
+        } else if word(&all, 1) != word(&said, 1) {
+            rules += 1;
+        } else {
+            tests += 1;
+        }
+    }
+    [tests, damage, rules]
+}
+
+#[test]
+fn lookups_skip_partitions_and_damage_and_better_rules() {
+    for (name, lines) in
+        [("edges", edges("lookup").unwrap()), ("drawn", drawn("lookup", 26, 8000).unwrap()), ("stored", stored())]
+    {
+        let [tests, damage, rules] = skips_of(&lines);
+        assert!(tests >= 20 && damage >= 4 && rules >= 1, "{}: {}, {}, {}", name, tests, damage, rules);
+    }
+}
+
 #[test]
 fn only_the_protocol_has_faulty_lines() {
     for kind in KINDS {
@@ -117,10 +161,10 @@ fn only_the_protocol_has_faulty_lines() {
 }
 
 #[test]
-fn edges_of_a_kind_have_at_most_1200000_bytes() {
+fn edges_of_a_kind_have_at_most_1400000_bytes() {
     for kind in KINDS {
         let bytes: usize = edges(kind).unwrap().lines.iter().map(|line| line.len() + 1).sum();
-        assert!(bytes <= 1_200_000, "{}: {} bytes", kind, bytes);
+        assert!(bytes <= 1_400_000, "{}: {} bytes", kind, bytes);
     }
 }
 

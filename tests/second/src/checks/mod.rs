@@ -3,6 +3,7 @@
 mod choices;
 mod coverage;
 mod dates;
+mod least;
 mod marks;
 mod properties;
 mod readings;

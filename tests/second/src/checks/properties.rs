@@ -12,7 +12,7 @@ use crate::prefixes::{pairs_of, prefix_to_range};
 use crate::ranges::{holds, is_void, side_of, spot_of, Range, Side, Spot};
 use crate::seed::Seed;
 use crate::sorting::{standing, Standing};
-use crate::table::{audit, open, report};
+use crate::table::{audit, least_at, open, report, run_from_at, run_to_at, starts_at, ORDER_AT};
 
 /// All ranges within 0 to 5, also with low > high, of dates and not.
 fn small_ranges() -> Vec<Range> {
@@ -169,8 +169,8 @@ fn numbers_past_d_alter_nothing() {
 pub fn choice_of(table: &[u16], n: usize) -> Vec<usize> {
     let mut choice = vec![0; n];
     for k in 0..table[2] as usize {
-        for place in table[3 + n + k]..table[3 + n + k + 1] {
-            choice[table[3 + place as usize] as usize] = k;
+        for place in table[starts_at(n) + k]..table[starts_at(n) + k + 1] {
+            choice[table[ORDER_AT + place as usize] as usize] = k;
         }
     }
     choice
@@ -191,7 +191,8 @@ pub fn assert_first_fit(rules: &[Rule], choice: &[usize]) {
 }
 
 /// The table by counting alone: the place of a rule is how many rules have a lower partition, or the same and come
-/// before it; run-from is that count by fields 0 to f, and run-to adds how many are alike there.
+/// before it; run-from is that count by fields 0 to f, and run-to adds how many are alike there. A rule is its partition's
+/// smallest where no lower number has the same one.
 pub fn assert_counted(rules: &[Rule], d: usize, choice: &[usize], table: &[u16]) {
     let n = rules.len();
     let count = |test: &dyn Fn(usize) -> bool| (0..n).filter(|j| test(*j)).count();
@@ -199,19 +200,21 @@ pub fn assert_counted(rules: &[Rule], d: usize, choice: &[usize], table: &[u16])
         let lower = count(&|j| choice[j] < choice[i]);
         let same = |j: usize| choice[j] == choice[i];
         let place = lower + count(&|j| same(j) && before(rules, j, i, d));
-        assert_eq!(table[3 + place] as usize, i);
-        assert_eq!(table[3 + n + choice[i]] as usize, lower);
+        assert_eq!(table[ORDER_AT + place] as usize, i);
+        assert_eq!(table[starts_at(n) + choice[i]] as usize, lower);
+        assert_eq!(table[least_at(n) + choice[i]] as usize == i, count(&|j| j < i && same(j)) == 0);
         for f in 0..d {
             let from = lower + count(&|j| same(j) && before(rules, j, i, f + 1));
             let alike = count(&|j| same(j) && rules[j][..=f] == rules[i][..=f]);
-            assert_eq!(table[4 + 2 * n + place * d + f] as usize, from);
-            assert_eq!(table[4 + 2 * n + n * d + place * d + f] as usize, from + alike);
+            assert_eq!(table[run_from_at(n) + place * d + f] as usize, from);
+            assert_eq!(table[run_to_at(n, d) + place * d + f] as usize, from + alike);
         }
     }
     let b = choice.iter().map(|k| k + 1).max().unwrap_or(0);
     assert_eq!(table[..3], [n as u16, d as u16, b as u16]);
-    assert_eq!(table[3 + n + b] as usize, n);
-    assert!(table[3 + n + b + 1..4 + 2 * n].iter().all(|x| *x == 0));
+    assert_eq!(table[starts_at(n) + b] as usize, n);
+    assert!(table[starts_at(n) + b + 1..least_at(n)].iter().all(|x| *x == 0));
+    assert!(table[least_at(n) + b..run_from_at(n)].iter().all(|x| *x == 0));
 }
 
 #[test]

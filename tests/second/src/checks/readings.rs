@@ -10,7 +10,7 @@ use crate::program::printed;
 use crate::ranges::{side_of, spot_of, Range, Side, Spot};
 use crate::refusal::{refuse, refuse_at};
 use crate::sorting::{standing, Standing};
-use crate::table::{audit, report};
+use crate::table::{audit, least_at, report};
 
 fn stand(d: u32, two_rules: &[u32]) -> Standing {
     let rules = rules_of(Shape::from(d), two_rules).unwrap();
@@ -76,7 +76,7 @@ fn reading_5_no_rules_is_7_for_every_partition() {
     table[0] = 9;
     assert_eq!(report(one, &twins(2, 1), &table, 9), Err(refuse(6)));
     let mut table = built(1, &twins(2, 1));
-    table[3] = 9;
+    table[least_at(2)] = 9;
     assert_eq!(report(one, &twins(2, 1), &table, 2), Err(refuse(7)));
     assert_eq!(report(one, &twins(2, 1), &table, 0), Err(refuse(6)));
     assert_eq!(report(one, &twins(2, 1), &table, 1), Ok((1, 1)));
@@ -129,24 +129,24 @@ fn lines_of_the_calls_protocol() {
     assert_eq!(says("check 2 4 1 1 8 7"), "refused 4 0 1");
     assert_eq!(says("scan 1 2 7 7 7 0 0 0 0 0 0 0"), "ok 0");
     assert_eq!(says("scan 1 2 7 7 8 0 0 0 0 0 0 0"), "ok none");
-    assert_eq!(says("build 1 2 7 7 8 9 9 9 9 9 9 9 9"), "ok 1 table 1 1 1 0 0 1 0 1");
+    assert_eq!(says("build 1 2 7 7 9 9 9 9 9 9 9 9 9 9"), "ok 1 table 1 1 1 0 0 1 0 0 1");
     assert_eq!(says("build 1 2 7 7 3 9 9 9"), "refused 5 0 0 table 9 9 9");
     assert_eq!(says("build 1 2 7 7 0"), "refused 5 0 0 table");
     assert_eq!(says("choose 1 4 7 7 7 7 2 9 9"), "ok 2 run 0 1");
     assert_eq!(says("choose 1 4 7 7 7 7 0"), "refused 15 0 0 run");
     assert_eq!(says("choose 1 2 8 7 2 9 9"), "refused 4 0 0 run 9 9");
-    assert_eq!(says("layout 1 2 7 7 1 0 8 9 9 9 9 9 9 9 9"), "ok 1 table 1 1 1 0 0 1 0 1");
-    assert_eq!(says("layout 1 2 7 7 1 1 8 9 9 9 9 9 9 9 9"), "refused 16 0 0 table 9 9 9 9 9 9 9 9");
+    assert_eq!(says("layout 1 2 7 7 1 0 9 9 9 9 9 9 9 9 9 9"), "ok 1 table 1 1 1 0 0 1 0 0 1");
+    assert_eq!(says("layout 1 2 7 7 1 1 9 9 9 9 9 9 9 9 9 9"), "refused 16 0 0 table 9 9 9 9 9 9 9 9 9");
     assert_eq!(says("layout 1 2 7 7 1 1 0"), "refused 5 0 0 table");
-    assert_eq!(says("lookup 1 2 7 7 8 1 1 1 0 0 1 0 1 7 0 0 0 0 0 0 0"), "ok 0 1 edge");
-    assert_eq!(says("lookup 1 2 7 7 8 1 1 1 0 0 1 0 1 8 0 0 0 0 0 0 0"), "ok none 1 plain");
-    assert_eq!(says("audit 1 2 7 7 8 1 1 1 0 0 1 0 1"), "ok yes");
-    assert_eq!(says("audit 1 2 7 7 8 1 1 1 0 0 1 0 2"), "ok no");
-    assert_eq!(says("report 1 2 7 7 8 1 1 1 0 0 1 0 1 0"), "ok 1 0");
+    assert_eq!(says("lookup 1 2 7 7 9 1 1 1 0 0 1 0 0 1 7 0 0 0 0 0 0 0"), "ok 0 1 edge");
+    assert_eq!(says("lookup 1 2 7 7 9 1 1 1 0 0 1 0 0 1 8 0 0 0 0 0 0 0"), "ok none 1 plain");
+    assert_eq!(says("audit 1 2 7 7 9 1 1 1 0 0 1 0 0 1"), "ok yes");
+    assert_eq!(says("audit 1 2 7 7 9 1 1 1 0 0 1 0 0 2"), "ok no");
+    assert_eq!(says("report 1 2 7 7 9 1 1 1 0 0 1 0 0 1 0"), "ok 1 0");
     assert_eq!(says("independent 1 4 0 1 2 3"), "ok yes");
     assert_eq!(says("independent 1 4 0 2 2 3"), "ok no 0 1");
     for (number, said) in [("5", "ok 0 1 plain"), ("9", "ok 0 1 edge"), ("10", "ok none 1 plain")] {
-        assert_eq!(says(&format!("lookup 1 2 0 9 8 1 1 1 0 0 1 0 1 {} 0 0 0 0 0 0 0", number)), said);
+        assert_eq!(says(&format!("lookup 1 2 0 9 9 1 1 1 0 0 1 0 0 1 {} 0 0 0 0 0 0 0", number)), said);
     }
     for (numbers, said) in [
         ("5 9 4", "ok below"),
@@ -198,8 +198,10 @@ fn lines_of_the_calls_protocol() {
     ] {
         assert_eq!(says(bad), "bad");
     }
-    // a run of 1,100 numbers is held, and of 1,101 is not; a run of r2p has 200 at most, as before
+    // a run of 1,100 numbers is held, and of 1,101 is not; a run of r2p has 200 at most, as before; a table has 19,500
     let zeros = |length: usize| format!("{}{}", length, " 0".repeat(length));
+    assert!(says(&format!("build 1 0 {}", zeros(19500))).starts_with("refused 5 0 0 table 0 0"));
+    assert_eq!(says(&format!("build 1 0 {}", zeros(19501))), "bad");
     assert!(says(&format!("choose 1 0 {}", zeros(1100))).starts_with("refused 15 0 0 run 0 0"));
     assert_eq!(says(&format!("choose 1 0 {}", zeros(1101))), "bad");
     assert_eq!(says(&format!("layout 1 0 {} 1 7", zeros(1100))), "refused 5 0 0 table 7");

@@ -2,7 +2,7 @@
 -- Assumes nothing.
 use native.Mathlib.Omega.{arith}
 use borrow.Author.Needs.{needs}
-use Rattle.auditing.proofs.Tested.{by-opening, laid-fields, laid-few, by-starts, by-rules, laid-parted, by-parts}
+use Rattle.auditing.proofs.Tested.{by-opening, laid-fields, laid-few, by-starts, by-rules, by-leasts, laid-parted, by-parts}
 use Rattle.auditing.proofs.checks.is_laid.Statement.{statement}
 use Rattle.auditing.proofs.checks.is_laid.Tie as tie
 
@@ -50,15 +50,31 @@ returns-3 c =
     by-rules _ _ (opens .before .before .open-fault .ensures) (opens .if1 .left) (n .rules-in .ensures) (starts .starts-fine .ensures) (ascend .if2 .left)
     (rules .rules-fine .ensures) (c .if3 .taken)
 
+leasts-fine-requires : tie.Need-leasts-fine-requires
+leasts-fine-requires c κs = search needs
+
+-- a smallest number is not right
+returns-4 : tie.Need-returns-4
+returns-4 c =
+    let leasts = c .before in
+    let once = leasts .before in
+    let rules = once .before in
+    let ascend = rules .before in
+    let starts = ascend .before in
+    let n = starts .before in
+    let opens = n .before in
+    by-leasts _ _ (opens .before .before .open-fault .ensures) (opens .if1 .left) (n .rules-in .ensures) (starts .starts-fine .ensures) (ascend .if2 .left)
+    (rules .rules-fine .ensures) (once .if3 .left) (leasts .leasts-fine .ensures) (c .if4 .taken)
+
 cast-parts-fine : tie.Need-cast-parts-fine
 cast-parts-fine c =
-    let opens = c .before .before .before .before .before .before in
+    let opens = c .before .before .before .before .before .before .before .before in
     let few = laid-fields _ _ (opens .before .before .open-fault .ensures) (opens .if1 .left) in
     omega arith
 
 parts-fine-requires : tie.Need-parts-fine-requires
 parts-fine-requires c κs =
-    let once = c .before in
+    let once = c .before .before .before in
     let rules = once .before in
     let ascend = rules .before in
     let starts = ascend .before in
@@ -68,16 +84,18 @@ parts-fine-requires c κs =
     (rules .rules-fine .ensures)
 
 -- the partitions decide
-returns-4 : tie.Need-returns-4
-returns-4 c =
-    let once = c .before .before in
+returns-5 : tie.Need-returns-5
+returns-5 c =
+    let least = c .before .before in
+    let leasts = least .before in
+    let once = leasts .before in
     let rules = once .before in
     let ascend = rules .before in
     let starts = ascend .before in
     let n = starts .before in
     let opens = n .before in
     by-parts _ _ (opens .before .before .open-fault .ensures) (opens .if1 .left) (n .rules-in .ensures) (starts .starts-fine .ensures) (ascend .if2 .left)
-    (rules .rules-fine .ensures) (once .if3 .left) (c .parts-fine .ensures)
+    (rules .rules-fine .ensures) (once .if3 .left) (leasts .leasts-fine .ensures) (least .if4 .left) (c .parts-fine .ensures)
 
 pub is-laid-spec : {M : Type 1} → statement M
 is-laid-spec =
@@ -91,6 +109,8 @@ is-laid-spec =
     returns-2
     rules-fine-requires
     returns-3
+    leasts-fine-requires
+    returns-4
     cast-parts-fine
     parts-fine-requires
-    returns-4)
+    returns-5)

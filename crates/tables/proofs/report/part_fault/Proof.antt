@@ -3,8 +3,7 @@
 use borrow.Author.Needs.{needs}
 use mathlib.Core.Path.{sym, _∙_}
 use borrow.Author.Tests.{not-true, not-false}
-use Rattle.tables.proofs.PartPlaces.{part-within-by}
-use Rattle.tables.proofs.Reporting.{fault-starts, fault-rules, fault-fine}
+use Rattle.tables.proofs.Reporting.{fault-starts, fault-least, fault-fine}
 use Rattle.tables.proofs.report.part_fault.Statement.{statement}
 use Rattle.tables.proofs.report.part_fault.Tie as tie
 
@@ -20,19 +19,19 @@ returns c =
     let told = c .before .before in
     c .refuse .ensures ∙ sym (fault-starts _ _ _ _ (sym (told .part-stands .ensures) ∙ not-true _ (c .before .if1 .taken)))
 
-rules-stand-requires : tie.Need-rules-stand-requires
-rules-stand-requires c κs = part-within-by (c .before .part-stands .ensures) (not-false _ (c .if1 .left))
+least-of-requires : tie.Need-least-of-requires
+least-of-requires c κs = search needs
 
 refuse-requires-2 : tie.Need-refuse-requires-2
 refuse-requires-2 c κs = search needs
 
--- its rule numbers
+-- its stored number
 returns-2 : tie.Need-returns-2
 returns-2 c =
     let told = c .before .before in
     let starts = told .before in
     c .refuse2 .ensures
-    ∙ sym (fault-rules _ _ _ _ (sym (starts .before .part-stands .ensures) ∙ not-false _ (starts .if1 .left)) (sym (told .rules-stand .ensures) ∙ not-true _ (c .before .if2 .taken)))
+    ∙ sym (fault-least _ _ _ _ (sym (starts .before .part-stands .ensures) ∙ not-false _ (starts .if1 .left)) (rw (told .least-of .ensures) at (c .before .if2 .taken)))
 
 refuse-requires-3 : tie.Need-refuse-requires-3
 refuse-requires-3 c κs = search needs
@@ -43,7 +42,7 @@ returns-3 c =
     let told = c .before .before in
     let starts = told .before in
     c .refuse3 .ensures
-    ∙ sym (fault-fine _ _ _ _ (sym (starts .before .part-stands .ensures) ∙ not-false _ (starts .if1 .left)) (sym (told .rules-stand .ensures) ∙ not-false _ (c .before .if2 .left)))
+    ∙ sym (fault-fine _ _ _ _ (sym (starts .before .part-stands .ensures) ∙ not-false _ (starts .if1 .left)) (rw (told .least-of .ensures) at (c .before .if2 .left)))
 
 pub part-fault-spec : {M : Type 1} → statement M
 part-fault-spec =
@@ -52,7 +51,7 @@ part-fault-spec =
     part-stands-requires
     refuse-requires
     returns
-    rules-stand-requires
+    least-of-requires
     refuse-requires-2
     returns-2
     refuse-requires-3

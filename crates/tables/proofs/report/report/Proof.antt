@@ -1,4 +1,4 @@
--- `tables::report::report` meets its contract: what the report's refusal is, and else the partition's size and smallest rule number.
+-- `tables::report::report` meets its contract: what the report's refusal is, and else the partition's size and its stored number.
 -- Assumes nothing.
 use native.Mathlib.Omega.{arith}
 use borrow.Author.Needs.{needs}
@@ -36,22 +36,19 @@ part-size-requires c κs =
 cast-t9 : tie.Need-cast-t9
 cast-t9 c = search needs
 
-least-rule-requires : tie.Need-least-rule-requires
-least-rule-requires c κs =
-    let n = c .before in
-    let t = n .before in
-    reported-within _ _ _ _ (t .before .before .report-fault .ensures) (t .if1 .left) (n .rules-in .ensures)
+least-of-requires : tie.Need-least-of-requires
+least-of-requires c κs = search needs
 
 cast-t12 : tie.Need-cast-t12
 cast-t12 c = search needs
 
--- its size and smallest rule number
+-- its size and its stored number
 returns-2 : tie.Need-returns-2
 returns-2 c =
     let size = c .before in
     let n = size .before in
     let t = n .before in
-    report-by-answer _ _ _ _ (t .before .before .report-fault .ensures) (t .if1 .left) (n .rules-in .ensures) (size .part-size .ensures) (c .least-rule .ensures)
+    report-by-answer _ _ _ _ (t .before .before .report-fault .ensures) (t .if1 .left) (n .rules-in .ensures) (size .part-size .ensures) (c .least-of .ensures)
 
 pub report-spec : {M : Type 1} → statement M
 report-spec =
@@ -64,6 +61,6 @@ report-spec =
     cast-q
     part-size-requires
     cast-t9
-    least-rule-requires
+    least-of-requires
     cast-t12
     returns-2)
