@@ -3,7 +3,8 @@
 # proved, machine_named, code_named and load_named.
 # With BENCH_ALWAYS=1 in the environment what has the same code is timed too, and nothing is written: this tests the bench itself.
 
-# What can be timed: functions of both archives. What one of them alone has, as cuy_choose and cuy_lay_out, is told and not timed.
+# What can be timed: functions of both archives, but for cuy_choose and cuy_lay_out, which in turn are cuy_build. What one archive alone
+# has is told and not timed.
 compared=(lookup build plain_scan check audit independence report range_to_prefixes)
 heading='## Against the commit before'
 how='copy target/staticlib/libinterface.a aside at the commit before, once `rt staticlib interface` has written it'
@@ -69,8 +70,9 @@ Written by \`bench/run --before FILE\`, in a run of its own: time of the new cod
 - Method: the machine code of each function is compared first, bytes and relocations, with all that it reaches in its archive. Where it is other code, both
   archives are linked into one program and take turns of at least 2 ms of processor time, 31 each; their ratio is the median over the pairs of turns. The
   program is linked four times, with 16, 32, 48 and 64 bytes between a page's start and the code of each archive; new over before is the mean of the four
-  ratios, least and most stand beside it. Each side looks up in the table that it built itself; every table, answer and prefix of both is compared first.
-  No field is a date.
+  ratios, least and most stand beside it. Each side looks up in the table that it built itself. Every answer and prefix of both is compared first, and every
+  table but for the partitions' smallest rule numbers, which the new one alone has. A lookup may take fewer tests than before, and no more: *tests* are their
+  mean. No field is a date.
 - How far to trust it: the same code on both sides, on one of them 16, 32 or 48 bytes further on, came out in this way at 0.99 to 1.01 for lookup, 0.98 to 1.04
   for build, 0.95 to 1.06 for plain_scan, audit and report, and 0.99 to 1.34 for check and independence, whose loops are a few instructions long (measured
   once, when this bench was written, on two processors under load); range_to_prefixes, at the same place on both sides, at 0.98 to 1.01.

@@ -5,7 +5,8 @@
 #   gateway RULES HEADERS BYTES I_PROVED I_PLAIN T_PROVED T_PLAIN                 instructions, seconds
 #   code FUNCTION WORD                                                            same, other, new or gone against the commit before
 #   before FUNCTION CHARACTER n d b RATIO BEFORE                                  nanoseconds of one call, a line for each placement; of
-#                                                                                 range_to_prefixes RANGES WIDTH PREFIXES in the place of n d b
+#                                                                                 range_to_prefixes RANGES WIDTH PREFIXES in the place of n d b,
+#                                                                                 of lookup then the mean tests, BEFORE NEW
 #   dates FUNCTION CHARACTER n d b RATIO NONE                                     the same, of all dates over none; not beside lines of the
 #                                                                                 commit before
 #   choices FUNCTION CHARACTER n d b RATIO BUILD ITSELF                           the same, over the build, or over the audit for its parts
@@ -29,7 +30,9 @@ $1 == "choices" { chosen = 1 }
 $1 == "before" || $1 == "dates" || $1 == "choices" {
     row = $2 " " $3 " " $4 " " $5 " " $6
     if (!(row in turns)) { rows[++nr] = row; low[row] = $7 }
-    turns[row]++; ratios[row] += $7; earlier[row] += $8; itself[row] += $9
+    turns[row]++; ratios[row] += $7; earlier[row] += $8
+    if ($1 == "choices") itself[row] += $9
+    if ($1 == "before" && $2 == "lookup") tests[row] = grouped($9, 1) " | " grouped($10, 1)
     if ($7 < low[row]) low[row] = $7
     if ($7 > high[row]) high[row] = $7
 }
@@ -37,7 +40,7 @@ $1 == "lookup" {
     each = $8 / $6
     if (least == "" || each < least) least = each
     if (each > most) most = each
-    if ($3 == 1024 && $2 != "fields" && $2 != "partitions" && $8 / $9 > worst) worst = $8 / $9
+    if ($3 == 1024 && $8 / $9 > worst) { worst = $8 / $9; split($0, worst_line, " ") }
 }
 
 # Prints one table of ratios and one of lookups a second, for lines[first] to lines[last].
@@ -56,9 +59,9 @@ function lookup_tables(lines, first, last,    k, w) {
         printf "%s **%s** | %s | %s | %s | %s | %s | %s |\n", lookup_name(w), per_second(w[8]), per_second(w[9]), per_second(w[10]), per_second(w[11]), per_second(w[12]), per_second(w[13]), per_second(w[14])
     }
 }
-function lookup_name(w) {
-    return sprintf("| `lookup_%d_rules_%d_field%s%s` | %s | %s | %s |", w[3], w[4], w[4] == 1 ? "" : "s", w[2] == "partitions" ? "_" w[5] "_partition" (w[5] == 1 ? "" : "s") : "", w[2] == "fields" ? "points" : w[2] == "partitions" ? "layers" : spoken(w[2]), grouped(w[5]), grouped(w[6], 1))
-}
+function lookup_name(w) { return "| " lookup_bench(w) " | " lookup_list(w) " | " grouped(w[5]) " | " grouped(w[6], 1) " |" }
+function lookup_bench(w) { return sprintf("`lookup_%d_rules_%d_field%s%s`", w[3], w[4], w[4] == 1 ? "" : "s", w[2] == "partitions" ? "_" w[5] "_partition" (w[5] == 1 ? "" : "s") : "") }
+function lookup_list(w) { return w[2] == "fields" ? "points" : w[2] == "partitions" ? "layers" : spoken(w[2]) }
 # A number with its thousands parted, and with some digits after the point.
 function grouped(x, digits,    t) {
     t = sprintf("%." (digits + 0) "f", x)
@@ -74,28 +77,39 @@ function placed_name(w) {
 # The mean over the placements, with its least and its most, and the time of what it is held against.
 function placed_figures(row) { return sprintf("**%s** | %s | %s | %s", fine(ratios[row] / turns[row]), fine(low[row]), fine(high[row]), timed(earlier[row] / turns[row])) }
 
-# Prints the rows that are of ranges (1) or of lists (0), in the order asked for, if there are any: one thing over another.
-function placed_table(columns, of_ranges, one, other,    i, k, w, head) {
+# Which table a row stands in: that of ranges, of lists with the tests of a lookup, or of lists.
+function table_of(row) { return row ~ /^range_to_prefixes / ? "ranges" : row in tests ? "tests" : "lists" }
+
+# Prints the rows of a table, in the order asked for, if there are any: one thing over another.
+function placed_table(table, one, other,    i, k, w, head) {
     for (i = 1; i <= m; i++) for (k = 1; k <= nr; k++) {
         split(rows[k], w, " ")
-        if (w[1] != names[i] || (w[1] == "range_to_prefixes") != of_ranges) continue
-        if (!head++) printf "| bench | %s | %s over %s | least | most | %s |\n|---|---|--:|--:|--:|--:|--:|\n", columns, one, other, other
-        printf "| %s | %s | %s | %s |\n", placed_name(w), spoken(w[2]), of_ranges ? grouped(w[5] / w[3], 1) : grouped(w[5]), placed_figures(rows[k])
+        if (w[1] != names[i] || table_of(rows[k]) != table) continue
+        if (!head++) {
+            printf "| bench | %s | %s over %s | least | most | %s |", table == "ranges" ? "ranges | prefixes a range" : "list | partitions", one, other, other
+            printf "%s\n|---|---|--:|--:|--:|--:|--:|%s\n", table == "tests" ? sprintf(" tests, %s | tests, %s |", other, one) : "", table == "tests" ? "--:|--:|" : ""
+        }
+        printf "| %s | %s | %s | %s |", placed_name(w), spoken(w[2]), table == "ranges" ? grouped(w[5] / w[3], 1) : grouped(w[5]), placed_figures(rows[k])
+        print table == "tests" ? " " tests[rows[k]] " |" : ""
     }
     if (head) print ""
 }
 
 # Says whether an aim for a function holds, by the mean over the placements: on every list, or on those of one character, of at least
-# so many rules or ranges, or of at most so many.
-function aim(name, words, limit, character, from, to,    k, w, most, where) {
+# so many rules or ranges.
+function aim(name, words, limit, character, from,    k, w, most, where) {
     if (index(" " asked " ", " " name " ") == 0) return
     for (k = 1; k <= nr; k++) {
         split(rows[k], w, " ")
-        if (w[1] == name && (character == "" || w[2] == character) && w[3] >= from + 0 && (to == "" || w[3] <= to + 0) && ratios[rows[k]] / turns[rows[k]] > most) {
+        if (w[1] == name && (character == "" || w[2] == character) && w[3] >= from + 0 && ratios[rows[k]] / turns[rows[k]] > most) {
             most = ratios[rows[k]] / turns[rows[k]]
             where = placed_name(w) ", " spoken(w[2])
         }
     }
+    aimed(words, limit, most, where)
+}
+# The same by the greatest ratio and what has it; there is none where the code is the same.
+function aimed(words, limit, most, where) {
     printf "- Aim: %s at most " (limit < 0.1 ? "%.3f" : "%.2f") ". ", words, limit
     if (most == "") print "It holds: same code."
     else printf "It **%s**: the greatest is " (most < 0.1 ? "%.4f" : "%.3f") " (%s).\n", most <= limit ? "holds" : "does not hold", most, where
@@ -140,15 +154,16 @@ function growth_table(    i, k, w, kinds, count, fields, most, where, grown) {
     printf "\n- Aim: audit of 1,024 rules over that of 128 at most 16. It **%s**: the greatest is %.1f (%s).\n", most <= 16 ? "holds" : "does not hold", most, where
 }
 # Says where the time of an audit goes, by audits of the same list that say no on the way; `whole` is what it took among these.
-function audit_parts(row,    list, whole, refusals, starts, order) {
+function audit_parts(row,    list, whole, refusals, starts, order, smallest) {
     list = common(row)
     whole = earlier["until_n" list] / turns["until_n" list]
     refusals = takes("until_n" list)
     starts = takes("until_last_start" list)
     order = takes("until_last_rule" list)
+    smallest = takes("until_last_least" list)
     printf "Where an audit's time goes, on the access list of 1,024 rules: of %s the refusals 1 to 5 take %s (`cuy_check` by itself %s), n, d, b and the\n", timed(whole), timed(refusals), timed(takes("check" list))
-    printf "starts %s, the order %s, and neighbours and their runs %s. This was measured by audits of tables with one number altered, which say no when they come\n", timed(starts - refusals), timed(order - starts), timed(whole - order)
-    print "to it: n, the last start, the last rule of the order.\n"
+    printf "starts %s, the order %s, the smallest rule numbers %s, and neighbours and their runs %s. This was measured by audits of tables with one number\n", timed(starts - refusals), timed(order - starts), timed(smallest - order), timed(whole - smallest)
+    print "altered, which say no when they come to it: n, the last start, the last rule of the order, the last of the smallest rule numbers.\n"
 }
 
 END {
@@ -158,12 +173,12 @@ END {
         for (k = 1; k <= nc; k++) printf "| `%s` | %s |\n", codes[k], code[codes[k]] == "same" || code[codes[k]] == "other" ? code[codes[k]] " code" : code[codes[k]] == "new" ? "not there before" : "not there now"
         print ""
         m = split(asked, names, " ")
-        placed_table("list | partitions", 0, "new", "before")
-        placed_table("ranges | prefixes a range", 1, "new", "before")
-        aim("lookup", "lookup (n ≥ 128)", 1.10, "", 128)
-        aim("lookup", "lookup (n = 16)", 1.10, "", 16, 16)
-        aim("build", "build of the access list of 1,024 rules", 1.05, "access_list", 1024)
-        aim("build", "build of each", 1.10)
+        placed_table("tests", "new", "before")
+        placed_table("lists", "new", "before")
+        placed_table("ranges", "new", "before")
+        aim("lookup", "lookup of each", 1.05)
+        aim("lookup", "lookup of the access lists of 512 and 1,024 rules", 0.95, "access_list", 512)
+        aim("build", "build of each", 1.05)
         aim("range_to_prefixes", "range_to_prefixes of 1 to 4294967294", 0.30, "1_to_4294967294")
         aim("range_to_prefixes", "range_to_prefixes of each", 1.05)
     }
@@ -202,13 +217,15 @@ END {
     if (nl) {
         print "## Lookup\n"
         print "Time of the proved `cuy_lookup` over that of each other way: below 1 the proved lookup is the faster one."
-        print "*Rust loop* and *C loop* are the same walk, with the same refusals, on the same table. *Scan* is the proved `cuy_plain_scan`, which checks the"
-        print "whole list at each call, as 01 has it; *C scan* checks nothing. *acl* is " (acl ? "librte_acl of " acl ", which classifies 64 headers a call, or one" : "librte_acl, which was not there") "."
-        print "Tests are the mean range tests of a lookup. Aim: at most 1.6 over the Rust loop.\n"
+        print "*Rust loop* and *C loop* are the same walk, which skips the same partitions and refuses the same, on the same table. *Scan* is the proved"
+        print "`cuy_plain_scan`, which checks the whole list at each call, as 01 has it; *C scan* checks nothing. *acl* is " (acl ? "librte_acl of " acl ", which classifies 64 headers a call, or one" : "librte_acl, which was not there") "."
+        print "Tests are the mean range tests of a lookup, the same in all three.\n"
         lookup_tables(looks, 1, nl)
         print "\nThe same by the number of fields (points) and by the number of partitions (layers of ranges, each within the next):\n"
         for (k = 1; k <= np; k++) fields[nf + k] = parts[k]
         lookup_tables(fields, 1, nf + np)
+        print ""
+        aimed("lookup at 1,024 rules over the Rust loop", 1.2, worst, lookup_bench(worst_line) ", " lookup_list(worst_line))
         print "\n![Nanoseconds of a lookup against the number of rules, for four kinds of list](lookup.svg)\n"
         print "### How the cost grows\n"
         split(looks[1], a, " "); split(looks[4], z, " "); split(fields[1], fa, " "); split(fields[nf], fz, " "); split(parts[1], pa, " "); split(parts[np], pz, " ")
@@ -216,9 +233,10 @@ END {
         for (k = 1; k <= np; k++) { split(parts[k], w, " "); if (w[8] < w[11]) crossing = w[5] }
         printf "A lookup costs what its tests cost, %.0f to %.0f ns each in this run. A partition of m rules takes at most d + k tests, 2^k being the largest power of two\n", least, most
         printf "within m (proved), so n counts by its logarithm: from %d to %s points, all in one partition, the mean goes from %.1f to %.1f tests and from %.0f to %.0f ns. A field\n", a[3], grouped(z[3]), a[6], z[6], a[8], z[8]
-        printf "adds at most one test a partition: %d fields take %.0f ns where %d takes %.0f. Partitions add up, since each is walked: at n = 1,024 and d = 5 the cost goes from\n", fz[4], fz[8], fa[4], fa[8]
+        printf "adds at most one test a partition: %d fields take %.0f ns where %d takes %.0f. Partitions add up, but for those that are skipped: at n = 1,024 and d = 5 the cost goes from\n", fz[4], fz[8], fa[4], fa[8]
         printf "%.0f ns with %d partition to %s ns with %s. The scan grows with n alone and knows no partitions: ", pa[8], pa[5], grouped(pz[8]), grouped(pz[5])
-        if (crossing != "") printf "on these layers of 1,024 rules the lookup is the\nfaster one up to %s partitions at least, and the scan is with many more.\n", grouped(crossing)
+        if (crossing == pz[5]) print "on these layers of 1,024 rules the lookup is the\nfaster one with each of these numbers of partitions."
+        else if (crossing != "") printf "on these layers of 1,024 rules the lookup is the\nfaster one up to %s partitions at least, and the scan is with many more.\n", grouped(crossing)
         else print "on these layers of 1,024 rules\nit is the faster one."
         print ""
     }
@@ -231,7 +249,7 @@ END {
         print "looks up in the table that it built itself; every table, and every answer of the functions that are given a list, is compared first.\n"
         asked = "lookup build"
         m = split(asked, names, " ")
-        placed_table("list | partitions", 0, "all dates", "none")
+        placed_table("lists", "all dates", "none")
         aim("lookup", "lookup with all dates over none (n ≥ 128)", 1.10, "", 128)
         aim("build", "build with all dates over none", 1.10)
         print ""

@@ -21,6 +21,9 @@
  * order of their numbers, and each goes to the lowest partition in which it clashes with no rule so far, or else opens the
  * next. cuy_lay_out writes the table of any choice, and cuy_build is the two in turn.
  *
+ * With each partition the table stores its smallest rule number. Once a lookup has found a rule, it skips every partition
+ * whose stored number is greater than the smallest rule number found so far: it tests nothing there.
+ *
  * Dates
  *
  * The flags `dates`, given with each list, say which fields are dates: bit f is set where field f is one, so 1 says field 0,
@@ -54,7 +57,7 @@
  * The functions keep nothing between calls and allocate nothing, so several threads may call them at once, also on the same
  * list and table, as long as none of these calls writes to what another reads or writes: each thread has an answer of its
  * own, and nobody else uses the run or table that cuy_choose, cuy_lay_out, cuy_build or cuy_range_to_prefixes is writing. No
- * function takes more than 7 KB of stack. The time of an audit grows with the table's length, that of a build with the
+ * function takes more than 9 KB of stack. The time of an audit grows with the table's length, that of a build with the
  * square of n (stack and times are measured, not proved). The archive wants memcpy and memset of the C library, and nothing
  * else.
  */
@@ -68,19 +71,20 @@
 extern "C" {
 #endif
 
-/* The version of this header; cuy_version() gives that of the archive. Raised whenever an answer's numbers or a function's
- * parameters change: where the two differ, header and archive do not belong together.
+/* The version of this header; cuy_version() gives that of the archive. Raised whenever an answer's numbers, a function's
+ * parameters or the table's length change: where the two differ, header and archive do not belong together.
  * Version 3 has the parameter `dates` after d in the functions that are given a list. Callers of an older version must be
  * altered, by 0 there for a list without dates, and compiled anew: no linker notices that a parameter is missing.
- * cuy_choose and cuy_lay_out came to version 3 later: an archive that lacks them does not link with a program that calls
- * them, and its cuy_audit answers 1 for the table of cuy_build alone. */
-#define CUY_VERSION 3
+ * Version 4 stores the partitions' smallest rule numbers in the table, which has n numbers more by this, and a lookup may
+ * take fewer tests. Callers of version 3 must be compiled anew, for CUY_TABLE_LENGTH, and write their tables anew: one of the
+ * length before is refused with 5. */
+#define CUY_VERSION 4
 
 /* The limits: fields of a rule, rules of a list, numbers of the longest list and of the longest table. */
 #define CUY_MAX_FIELDS 8
 #define CUY_MAX_RULES 1024
 #define CUY_MAX_LIST 16384
-#define CUY_MAX_TABLE 18436
+#define CUY_MAX_TABLE 19460
 
 /* The refusals: name, number, and what is wrong. The place is 0, 0 but for 4, which is at the smallest such rule number, then
  * its smallest such field; and for 12, which is at how many places are needed. No function here gives 8: it is the program's
@@ -128,7 +132,7 @@ static inline const char *cuy_refusal_name(uint32_t number) {
 #else
 #define CUY_SIZE(n) ((size_t)(n))
 #endif
-#define CUY_TABLE_LENGTH(n, d) (4 + 2 * CUY_SIZE(n) + 2 * CUY_SIZE(n) * CUY_SIZE(d))
+#define CUY_TABLE_LENGTH(n, d) (4 + 3 * CUY_SIZE(n) + 2 * CUY_SIZE(n) * CUY_SIZE(d))
 
 /* Gives the version of the archive, to be held against CUY_VERSION. Refuses nothing. */
 uint32_t cuy_version(void);
@@ -171,9 +175,10 @@ uint32_t cuy_build(size_t d, uint32_t dates, const uint32_t *list, size_t list_l
  * fields or more the header's number is an end of its range, else 0, also where no rule fits. In a table that cuy_build or
  * cuy_lay_out wrote for this list and these flags, and so in each of which cuy_audit says 1, the rule is the first match, and
  * nothing is refused. In any other table, as one written with other flags for the d fields may be, a rule that is answered
- * still fits the header, by the flags of this call, and the edge is its own; but a rule that fits may be passed by, and the
- * table may be refused with 6.
- * Refuses with 1, 2, 3, 5, 6; never with 4, since it does not read the whole list.
+ * still fits the header, by the flags of this call, and the edge is its own; but a rule that fits may be passed by, as where
+ * a stored number is too great, and the table may be refused with 6.
+ * Refuses with 1, 2, 3, 5, 6; never with 4, since it does not read the whole list, and neither for a stored number nor for
+ * what is broken in a partition that is skipped.
  * In version 1 the answer had six numbers: who still lends six is written past. */
 uint32_t cuy_lookup(size_t d, uint32_t dates, const uint32_t *list, size_t list_length, const uint16_t *table,
                     size_t table_length, const uint32_t header[8], uint64_t answer[7]);
@@ -184,9 +189,11 @@ uint32_t cuy_lookup(size_t d, uint32_t dates, const uint32_t *list, size_t list_
 uint32_t cuy_audit(size_t d, uint32_t dates, const uint32_t *list, size_t list_length, const uint16_t *table,
                    size_t table_length, uint64_t answer[4]);
 
-/* Reports on a partition of a table. Answers its size in answer[3] and its smallest rule number in answer[4], worked out
- * by reading its places. It reads no range: the flags alter nothing, and are taken so that all these calls have one form.
- * Refuses with 1, 2, 3, 5, with 6 for a table that does not open, with 7, with 6 for a broken partition. */
+/* Reports on a partition of a table. Answers its size in answer[3] and its smallest rule number in answer[4], as the table
+ * stores it: where cuy_audit says 0, that may be another number. It reads neither the partition's rules nor a range: the
+ * flags alter nothing, and are taken so that all these calls have one form.
+ * Refuses with 1, 2, 3, 5, with 6 for a table that does not open, with 7, with 6 for a partition that is empty or reaches
+ * past the n rules, or whose stored number is n or more. */
 uint32_t cuy_report(size_t d, uint32_t dates, const uint32_t *list, size_t list_length, const uint16_t *table,
                     size_t table_length, size_t partition, uint64_t answer[5]);
 

@@ -8,10 +8,8 @@
 #include <stdlib.h>
 #include <string.h>
 
-enum { LONGEST = 4 + 2 * MOST_RULES + 2 * MOST_RULES * MOST_FIELDS };
-
 static struct list list;
-static uint16_t table[LONGEST], other[LONGEST];
+static uint16_t table[CUY_MAX_TABLE], other[CUY_MAX_TABLE];
 static size_t length, table_length;
 
 static void pass_proved(void) { proved_build(list.d, list.numbers, length, table, table_length); }
@@ -29,7 +27,7 @@ static void compare(const char *what, int (*build)(size_t, const uint32_t *, siz
 // Prints: character, n, d, b, then the nanoseconds of the proved build, plain first fit, and first fit in sorted partitions.
 static void measure(const char *character) {
     length = list.n * 2 * list.d;
-    table_length = 4 + 2 * list.n + 2 * list.n * list.d;
+    table_length = CUY_TABLE_LENGTH(list.n, list.d);
     int b = plain_build(list.d, list.numbers, length, table, table_length);
     compare("the proved code", proved_build, b);
     compare("C in sorted partitions", sorted_build, b);

@@ -1,9 +1,9 @@
 // Times the audit, and choose and lay_out in turn, against the build, in one program, and parts of an audit against the whole. On every
 // list the tables are compared before anything is timed, and a choice that is not first fit's is laid out, audited and looked up in.
 // Prints one line of words for each function and list.
-#include "../../include/cuyenalot.h"
 #include "clock.h"
 #include "lists.h"
+#include "table.h"
 #include <stdio.h>
 #include <stdlib.h>
 #include <string.h>
@@ -24,13 +24,15 @@ static void pass_lay_out(void) { cuy_lay_out(list.d, NO_DATES, list.numbers, len
 static void pass_choose_lay_out(void) { pass_choose(), pass_lay_out(); }
 static void pass_check(void) { cuy_check(list.d, NO_DATES, list.numbers, length, answer); }
 
-// Tables with one number altered, of which the audit says no when it comes there: n, the last start, the last rule of the order.
-enum { AT_N, AT_LAST_START, AT_LAST_RULE, WRONG };
+// Tables with one number altered, of which the audit says no when it comes there: n, the last start, the last rule of the order, the last
+// of the smallest rule numbers.
+enum { AT_N, AT_LAST_START, AT_LAST_RULE, AT_LAST_LEAST, WRONG };
 static _Alignas(4096) uint16_t wrong[WRONG][LONGEST];
 static void audit_wrong(int k) { cuy_audit(list.d, NO_DATES, list.numbers, length, wrong[k], table_length, answer); }
 static void pass_until_n(void) { audit_wrong(AT_N); }
 static void pass_until_last_start(void) { audit_wrong(AT_LAST_START); }
 static void pass_until_last_rule(void) { audit_wrong(AT_LAST_RULE); }
+static void pass_until_last_least(void) { audit_wrong(AT_LAST_LEAST); }
 
 static void fail(const char *what, const char *character) {
     fprintf(stderr, "bench: choices: %s, on %s of %zu rules, %zu fields\n", what, character, list.n, list.d);
@@ -104,14 +106,17 @@ static void measure(const char *character, int in_turn) {
 static void measure_parts(const char *character) {
     for (int k = 0; k < WRONG; k++) memcpy(wrong[k], table, sizeof table);
     wrong[AT_N][0]++;
-    wrong[AT_LAST_START][3 + 2 * list.n] = 1;
-    wrong[AT_LAST_RULE][3 + list.n - 1] = table[3];
+    wrong[AT_LAST_START][starts_at(list.n) + list.n] = 1;
+    wrong[AT_LAST_RULE][ORDER_AT + list.n - 1] = table[ORDER_AT];
+    wrong[AT_LAST_LEAST][least_at(list.n) + list.n - 1] = 1;
     hold(pass_until_n, 0, "audit says yes to another n", character);
     hold(pass_until_last_start, 0, "audit says yes to another last start", character);
     hold(pass_until_last_rule, 0, "audit says yes to a rule twice", character);
+    hold(pass_until_last_least, 0, "audit says yes to another last smallest rule number", character);
     struct contender those[] = {{"audit", pass_audit, 1, 0}, {"check", pass_check, 1, 0}, {"until_n", pass_until_n, 1, 0},
-                                {"until_last_start", pass_until_last_start, 1, 0}, {"until_last_rule", pass_until_last_rule, 1, 0}};
-    time_all(those, 5, character);
+                                {"until_last_start", pass_until_last_start, 1, 0}, {"until_last_rule", pass_until_last_rule, 1, 0},
+                                {"until_last_least", pass_until_last_least, 1, 0}};
+    time_all(those, 6, character);
 }
 
 int main(void) {

@@ -15,7 +15,7 @@ enum { HEADERS = 2048, BATCH = 64 };
 struct plain_answer rust_lookup(size_t d, const uint32_t *list, size_t length, const uint16_t *table, size_t table_length, const uint32_t *header);
 
 static struct list list;
-static uint16_t table[4 + 2 * MOST_RULES + 2 * MOST_RULES * MOST_FIELDS];
+static uint16_t table[CUY_MAX_TABLE];
 static size_t length, table_length;
 static uint32_t headers[HEADERS][8];
 static volatile uint64_t kept; // what the passes add up, so that no call is left out
@@ -75,7 +75,7 @@ static int same(struct plain_answer a, struct plain_answer b) { return a.refusal
 // Builds the table, compares all answers, times, and prints: character, n, d, b, mean tests, hits of 100, then the nanoseconds of each.
 static void measure(const char *character, struct draw *from) {
     length = list.n * 2 * list.d;
-    table_length = 4 + 2 * list.n + 2 * list.n * list.d;
+    table_length = CUY_TABLE_LENGTH(list.n, list.d);
     int b = plain_build(list.d, list.numbers, length, table, table_length);
     headers_for(&list, from, headers, HEADERS);
     struct contender those[MOST_CONTENDERS] = {

@@ -18,7 +18,7 @@ int plain_build(size_t d, const uint32_t *list, size_t length, uint16_t *table, 
 // The same table by a cleverer way: each partition is kept sorted, and a rule is held against it by binary search.
 int sorted_build(size_t d, const uint32_t *list, size_t length, uint16_t *table, size_t table_length);
 
-// The walk of 01 as a loop, with every refusal of a lookup.
+// The walk of 01 as a loop, with every refusal of a lookup, which skips partitions as 02, W5 has it.
 struct plain_answer plain_lookup(size_t d, const uint32_t *list, size_t length, const uint16_t *table, size_t table_length, const uint32_t *header);
 
 // The first match by a loop over the rules; the list is taken to be sound, and is not checked.

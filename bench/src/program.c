@@ -1,4 +1,5 @@
 // The program of 01 in plain C: reads rules.csv and headers.csv, builds, looks up, prints. What the proved program is held against.
+#include "../../include/cuyenalot.h"
 #include "plain.h"
 #include <stdbool.h>
 #include <stdio.h>
@@ -108,13 +109,12 @@ static int read_rules(struct input *in, uint32_t *list, size_t *length) {
 int main(int words, char **word) {
     static struct input in;
     static uint32_t list[MOST_RULES * MOST_CELLS];
-    static uint16_t table[4 + 2 * MOST_RULES + MOST_RULES * MOST_CELLS];
+    static uint16_t table[CUY_MAX_TABLE];
     size_t length = 0, table_length = 0;
     in.file = fopen(words == 3 ? word[1] : "rules.csv", "rb");
     int d = read_rules(&in, list, &length);
     if (d > 0) {
-        size_t n = length / (2 * (size_t)d);
-        table_length = 4 + 2 * n + 2 * n * (size_t)d;
+        table_length = CUY_TABLE_LENGTH(length / (2 * (size_t)d), d);
         int b = plain_build((size_t)d, list, length, table, table_length);
         if (b < 0) d = b;
     }

@@ -2,11 +2,12 @@
 // A request that alters a signature, an answer or the table's length alters the line of it here, and nothing else in the bench.
 #ifndef SIDES_H
 #define SIDES_H
-#include "../../include/cuyenalot.h"
 #include "ranges.h"
+#include "table.h"
+#include <string.h>
 
-// What both sides must answer alike: the first so many numbers of each answer, and whether every number of the tables.
-enum { ALIKE = 7, TABLES_ALIKE = 1, MOST_ANSWERED = 8 };
+// What both sides must answer alike: the first so many numbers of each answer; and whether a lookup may take fewer tests than before.
+enum { ALIKE = 7, TESTS = 5, FEWER_TESTS = 1, MOST_ANSWERED = 8 };
 
 // What a call is lent beside its header: n rules of d fields, `length` numbers of the list, and the side's own table.
 struct lent {
@@ -15,7 +16,13 @@ struct lent {
     uint16_t *table;
 };
 
-// The functions of a side, called in the same way on both. Those that the side before lacks, cuy_choose and cuy_lay_out, are not among them.
+// Says whether the tables are alike: the new one has each partition's smallest rule number, and else every number of the one before.
+static int tables_alike(const struct lent *before, const struct lent *new) {
+    size_t head = least_at(new->n), rest = before->table_length - head;
+    return memcmp(before->table, new->table, 2 * head) == 0 && memcmp(before->table + head, new->table + from_at(new->n), 2 * rest) == 0;
+}
+
+// The functions of a side, called in the same way on both. cuy_choose and cuy_lay_out, which in turn are cuy_build, are not among them.
 struct side {
     size_t (*table_length)(size_t n, size_t d);
     uint32_t (*check)(const struct lent *l, uint64_t *answer);

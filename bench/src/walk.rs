@@ -1,5 +1,5 @@
-//! The walk of 01 as a plain Rust loop over slices, with every refusal of a lookup: what the proved walk, which calls
-//! itself, is timed against.
+//! The walk of 01 as a plain Rust loop over slices, with every refusal of a lookup, which skips partitions as 02, W5 has it:
+//! what the proved walk, which calls itself, is timed against.
 
 /// A lookup's answer: the refusal (0: none), the tests, the rule (-1: none), and 1 where it is at an edge, else 0.
 #[repr(C)]
@@ -25,11 +25,13 @@ fn lookup(d: usize, list: &[u32], table: &[u16], header: &[u32; 8]) -> Answer {
     if n > 1024 {
         return refused(3);
     }
-    if table.len() != 4 + 2 * n + 2 * n * d {
+    if table.len() != 4 + 3 * n + 2 * n * d {
         return refused(5);
     }
-    let (order, starts) = (&table[3..3 + n], &table[3 + n..4 + 2 * n]);
-    let (from, to) = table[4 + 2 * n..].split_at(n * d);
+    let (order, rest) = table[3..].split_at(n);
+    let (starts, rest) = rest.split_at(n + 1);
+    let (least, rest) = rest.split_at(n);
+    let (from, to) = rest.split_at(n * d);
     let b = table[2] as usize;
     if table[0] as usize != n || table[1] as usize != d || b > n || starts[0] != 0 || starts[b] as usize != n {
         return refused(6);
@@ -37,6 +39,10 @@ fn lookup(d: usize, list: &[u32], table: &[u16], header: &[u32; 8]) -> Answer {
     let mut best = n;
     let mut tests = 0;
     for q in 0..b {
+        // before the first candidate best is n, and nothing is skipped
+        if best < n && best < least[q] as usize {
+            continue;
+        }
         let (mut s, mut e, mut f) = (starts[q] as usize, starts[q + 1] as usize, 0);
         if s >= e || e > n {
             return refused(6);

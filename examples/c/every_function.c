@@ -8,6 +8,9 @@
 
 enum { FIELDS = 2, NO_DATES = 0, RULES = 5, NUMBERS = RULES * 2 * FIELDS, TABLE = CUY_TABLE_LENGTH(RULES, FIELDS) };
 
+/* where a table has its first rule number, after n, d and b; and the first partition's smallest, after n + 1 starts */
+enum { ORDER = 3, LEAST = ORDER + RULES + RULES + 1 };
+
 /* the bench list */
 static const uint32_t bench[NUMBERS] = {7, 7, 100, 100, 7, 7, 200, 299, 8, 8, 0, 999, 7, 7, 0, 999, 0, 9, 0, 999};
 
@@ -215,11 +218,22 @@ int main(void) {
     report("report on partition 1", table, 1);
     report("report on partition 3", table, 3);
 
+    /* the last number is of the last partition, which a lookup skips once it has found rule 3 */
     table[TABLE - 1]++;
     audit("audit with another last number", bench, table);
-    lookup("look up with another last number", table, TABLE, b4);
-    table[3] = RULES;
-    report("report with a rule too many", table, 0);
+    lookup("look up 7, 150 with another last number", table, TABLE, b4);
+    lookup("look up 5, 5 with another last number", table, TABLE, plain);
+    table[TABLE - 1]--;
+
+    /* a report reads the smallest rule number as it is stored, and no rule number of a place */
+    table[LEAST] = 1;
+    audit("audit with smallest rule 1", bench, table);
+    report("report with smallest rule 1", table, 0);
+    table[LEAST] = RULES;
+    report("report with smallest rule 5", table, 0);
+    table[LEAST] = 0;
+    table[ORDER] = RULES;
+    report("report with rule 5 at its first place", table, 0);
 
     choices();
 

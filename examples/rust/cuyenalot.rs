@@ -28,7 +28,7 @@ impl Shape {
 }
 
 /// The version of the interface that this file is for; `version()` gives that of the archive.
-pub const VERSION: u32 = 3;
+pub const VERSION: u32 = 4;
 
 /// The limits: fields of a rule, rules of a list, numbers of the longest list and of the longest table.
 pub const MAX_FIELDS: usize = 8;
@@ -87,7 +87,7 @@ pub struct Looked {
     pub edge: bool,
 }
 
-/// A partition: how many rules it has, and the smallest rule number.
+/// A partition: how many rules it has, and the smallest rule number, as the table stores it.
 #[derive(Clone, Copy, Debug, PartialEq, Eq)]
 pub struct Part {
     pub size: usize,
@@ -187,7 +187,7 @@ mod c {
 /// How many numbers the table of n rules of d fields has: at most `MAX_TABLE` for n up to `MAX_RULES` and d up to
 /// `MAX_FIELDS`. Past these limits there is no such table, and the same sum is given, held at `usize::MAX` where it is larger.
 pub const fn table_length(n: usize, d: usize) -> usize {
-    n.saturating_mul(2).saturating_add(n.saturating_mul(2).saturating_mul(d)).saturating_add(4)
+    n.saturating_mul(3).saturating_add(n.saturating_mul(2).saturating_mul(d)).saturating_add(4)
 }
 
 /// The version of the archive, to be held against `VERSION`.
@@ -267,7 +267,7 @@ pub fn build(shape: Shape, list: &[u32], table: &mut [u16]) -> Result<usize, Ref
 
 /// Looks a header up in a table: the rule, or none, the range tests, and whether the rule is at an edge. In a table that `audit`
 /// says no to, as one written with other flags may be, a rule that is given still fits, by the flags of this call, and need not
-/// be the first match.
+/// be the first match. Nothing is tested in a partition whose stored number is greater than the smallest rule found so far.
 pub fn lookup(shape: Shape, list: &[u32], table: &[u16], header: &Header) -> Result<Looked, Refusal> {
     let (d, dates) = shape.numbers();
     let mut answer = [0; 7];
@@ -287,7 +287,8 @@ pub fn audit(shape: Shape, list: &[u32], table: &[u16]) -> Result<bool, Refusal>
     Ok(answer[3] == 1)
 }
 
-/// Reports on a partition of a table; which fields are dates alters nothing.
+/// Reports on a partition of a table; its rules are not read, and which fields are dates alters nothing. In a table that `audit`
+/// says no to, the number stored may be another than the smallest.
 pub fn report(shape: Shape, list: &[u32], table: &[u16], partition: usize) -> Result<Part, Refusal> {
     let (d, dates) = shape.numbers();
     let mut answer = [0; 5];

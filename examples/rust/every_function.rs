@@ -10,6 +10,10 @@ const SHAPE: Shape = Shape::of(FIELDS);
 const NUMBERS: usize = 20;
 const TABLE: usize = table_length(5, FIELDS);
 
+/// Where a table has its first rule number, after n, d and b; and the first partition's smallest, after n + 1 starts.
+const ORDER: usize = 3;
+const LEAST: usize = ORDER + 5 + 6;
+
 /// The bench list.
 const BENCH: [u32; NUMBERS] = [7, 7, 100, 100, 7, 7, 200, 299, 8, 8, 0, 999, 7, 7, 0, 999, 0, 9, 0, 999];
 
@@ -140,11 +144,22 @@ fn main() {
     say("report on partition 1", report(SHAPE, &BENCH, &table, 1).map(|part| [part.size, part.least]));
     say("report on partition 3", report(SHAPE, &BENCH, &table, 3).map(|part| [part.size, part.least]));
 
+    // the last number is of the last partition, which a lookup skips once it has found rule 3
     table[TABLE - 1] += 1;
     say("audit with another last number", audit(SHAPE, &BENCH, &table).map(|laid| [laid as usize]));
-    say("look up with another last number", lookup(SHAPE, &BENCH, &table, &B4).map(looked));
-    table[3] = 5;
-    say("report with a rule too many", report(SHAPE, &BENCH, &table, 0).map(|part| [part.size, part.least]));
+    say("look up 7, 150 with another last number", lookup(SHAPE, &BENCH, &table, &B4).map(looked));
+    say("look up 5, 5 with another last number", lookup(SHAPE, &BENCH, &table, &PLAIN).map(looked));
+    table[TABLE - 1] -= 1;
+
+    // a report reads the smallest rule number as it is stored, and no rule number of a place
+    table[LEAST] = 1;
+    say("audit with smallest rule 1", audit(SHAPE, &BENCH, &table).map(|laid| [laid as usize]));
+    say("report with smallest rule 1", report(SHAPE, &BENCH, &table, 0).map(|part| [part.size, part.least]));
+    table[LEAST] = 5;
+    say("report with smallest rule 5", report(SHAPE, &BENCH, &table, 0).map(|part| [part.size, part.least]));
+    table[LEAST] = 0;
+    table[ORDER] = 5;
+    say("report with rule 5 at its first place", report(SHAPE, &BENCH, &table, 0).map(|part| [part.size, part.least]));
 
     choices();
 
