@@ -11,7 +11,7 @@ use ranges::refusal::BAD_LINE;
 use text::line::Line;
 
 // Why a header line is refused. Cells count from 1, as the reader counts them.
-#[derive(Drop)]
+#[derive(Clone, Copy)]
 pub enum HeaderFlaw {
     // It is not.
     Nothing,

@@ -6,7 +6,7 @@ use crate::answer::{HeaderFlaw, is_refused};
 
 // What the lines that have ended come to: how many they are, how many of them were refused, the number of the first
 // that was, counted from 1, or 0, and why it was.
-#[derive(Drop)]
+#[derive(Clone, Copy)]
 pub struct HeadersSoFar {
     pub lines: u64,
     pub refused: u64,

@@ -9,6 +9,8 @@
 //
 // Said on standard error. Header lines that are refused are counted (`count`), and one line says how many they are, which is
 // the first and why (`complain`).
+#![tactic(auto)]
+
 pub mod answer;
 pub mod complain;
 pub mod count;

@@ -7,7 +7,7 @@ use rulesfile::file::RulesSoFar;
 use rulesfile::table::rules_table;
 
 // The rules' flaw, and the next place for output.
-#[derive(Drop)]
+#[derive(Clone, Copy)]
 pub struct Opened {
     pub flaw: Flaw,
     pub at: usize,

@@ -9,7 +9,7 @@ use ranges::refusal::Refusal;
 use sorting::build::build_fault;
 
 // What an audit answers.
-#[derive(Drop)]
+#[derive(Clone, Copy)]
 pub enum Verdict {
     // Some choice of partitions makes this table.
     Yes,

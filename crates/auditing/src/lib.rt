@@ -9,5 +9,7 @@
 // next, and what the two have alike says of both their rows, the run-froms of the second and the run-tos of the first,
 // whether they go on or end there. `specs/Checked.antt` has these facts, and `proofs/Laid.antt` the
 // theorem that a table has them exactly where some choice makes it.
+#![tactic(auto)]
+
 pub mod audit;
 mod checks;

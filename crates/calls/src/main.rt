@@ -13,6 +13,8 @@
 // `words`: it finds the parts of the line's numbers, calls the library, and puts the answer's text into the run of bytes
 // that is written out. So input comes to answers on slices, and that is proved (`reply`); only `read` and `write` are
 // the system's (`serve`).
+#![tactic(auto)]
+
 mod answer;
 mod reply;
 mod serve;

@@ -9,7 +9,7 @@ use hearing::line::{Line, hear, line_in, line_start};
 use words::limits::ANSWER_MOST;
 
 // Where serving has come to: the present line, the next byte to serve, and the next place for an answer.
-#[derive(Drop)]
+#[derive(Clone, Copy)]
 pub struct Place {
     pub line: Line,
     pub next: usize,

@@ -15,7 +15,7 @@ fn flush(out: &[u8], at: usize) -> bool
 }
 
 // What is left after a piece of input: the present line, whether to go on, and whether all went well so far.
-#[derive(Drop)]
+#[derive(Clone, Copy)]
 struct Turn {
     line: Line,
     going: bool,

@@ -7,7 +7,7 @@ use words::choice_words::ChoiceWord;
 use words::table_words::TableWord;
 
 // What a line's first word asks for.
-#[derive(Drop)]
+#[derive(Clone, Copy)]
 pub enum Word {
     Check,
     Scan,

@@ -6,7 +6,7 @@ use ranges::refusal::{BAD_FIELDS, BAD_LINE, LOW_ABOVE_HIGH, TOO_MANY_RULES};
 
 // The first flaw of a rules file. Lines and cells count from 1, cells as the reader counts them; rules and fields from
 // 0, as 01 has them.
-#[derive(Drop)]
+#[derive(Clone, Copy)]
 pub enum Flaw {
     // None.
     Nothing,

@@ -2,5 +2,7 @@
 // for (`flaw`), and its text (`say`).
 //
 // The crates that read a rules file and say what is wrong with it cite it; it cites `text` for putting bytes.
+#![tactic(auto)]
+
 pub mod flaw;
 pub mod say;

@@ -14,7 +14,7 @@ use rulesfile::file::RulesSoFar;
 use rulesfile::table::{rules_length, rules_room, rules_shape};
 
 // What is left after a piece: the headers, and whether what they printed was written.
-#[derive(Drop)]
+#[derive(Clone, Copy)]
 pub struct Turn {
     pub file: HeadersFile,
     pub going: bool,
@@ -53,7 +53,7 @@ fn answer_piece(
 }
 
 // What reading the headers has come to.
-#[derive(Drop)]
+#[derive(Clone, Copy)]
 pub enum HeadersRead {
     // All of the file's lines.
     Are(HeadersSoFar),

@@ -12,14 +12,14 @@ use lists::shape::Shape;
 use text::line::{Reader, end_line, read_line, reader_start};
 
 // The headers file within a line, of which some bytes have come.
-#[derive(Drop)]
+#[derive(Clone, Copy)]
 pub struct HeadersFile {
     pub reader: Reader,
     pub headers: HeadersSoFar,
 }
 
 // The headers after some bytes more, how many those were, and the next place for output.
-#[derive(Drop)]
+#[derive(Clone, Copy)]
 pub struct Progress {
     pub file: HeadersFile,
     pub used: usize,
@@ -27,7 +27,7 @@ pub struct Progress {
 }
 
 // The headers once their file has ended, and the next place for output.
-#[derive(Drop)]
+#[derive(Clone, Copy)]
 pub struct Ended {
     pub headers: HeadersSoFar,
     pub at: usize,

@@ -6,7 +6,7 @@ use flaws::say::put_named;
 use libc::STDIN_FILENO;
 
 // What a read brought.
-#[derive(Drop)]
+#[derive(Clone, Copy)]
 pub enum Got {
     Bytes(usize),
     End,

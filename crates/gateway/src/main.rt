@@ -19,6 +19,8 @@
 // said of them is their first flaw. What opens, reads and writes (`input`, `output`, `read_rules`, `answer_headers`,
 // `serve` and this one) reads, hands on and writes: docs/PROMISES.md says of it, sentence by sentence, what is proved and
 // what is tested.
+#![tactic(auto)]
+
 mod answer_headers;
 mod headers;
 mod input;

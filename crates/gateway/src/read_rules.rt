@@ -6,7 +6,7 @@ use flaws::flaw::flaw_number;
 use rulesfile::file::{RulesFile, RulesSoFar, rules_end, rules_piece, rules_start};
 
 // What reading the rules has come to.
-#[derive(Drop)]
+#[derive(Clone, Copy)]
 pub enum RulesRead {
     // The rules of the file, and whether what is wrong with it has been said: one that can't be opened or is a folder
     // counts as empty.

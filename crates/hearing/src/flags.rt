@@ -6,7 +6,7 @@ ghost use Rattle.hearing.specs.Flags.{next_flag, flag_with, flags_with, has_colo
 const FLAGS: u32 = 8;
 
 // What has come of the flags.
-#[derive(Drop)]
+#[derive(Clone, Copy)]
 pub enum Flags {
     // No colon: there are none.
     Without,

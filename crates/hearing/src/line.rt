@@ -10,7 +10,7 @@ use text::row::{Row, row_byte, row_next, row_start};
 
 // What has been heard of a line: whether a blank has ended its first word, how many of that word's bytes stand in
 // the run lent for them, the flags of the first number after it, and the line of those numbers.
-#[derive(Drop)]
+#[derive(Clone, Copy)]
 pub struct Line {
     pub named: bool,
     pub length: usize,

@@ -11,6 +11,8 @@
 //
 // It is thin: each function calls the library and writes its answer down. None has a `requires`: the library refuses
 // what it cannot answer, so a caller owes valid memory and nothing more.
+#![tactic(auto)]
+
 mod answer;
 pub mod list;
 pub mod prefix;

@@ -11,7 +11,7 @@ use ranges::refusal::Refusal;
 use ranges::side::meets;
 
 // What a test of order independence answers: yes, or the least pair of rules that one header fits; or a refusal.
-#[derive(Drop)]
+#[derive(Clone, Copy)]
 pub enum Pair {
     Independent,
     Both(usize, usize),

@@ -15,6 +15,8 @@
 // W2). `independence` says whether some header fits two rules, and which two come first. All but `rule_fits` and
 // `rule_edge`, which refuse nothing, first refuse by 1, 2, 3 and 4, in this order (`list_fault`; `shape_fault` gives 1, 2
 // and 3 alone, for those who do not read the whole list).
+#![tactic(auto)]
+
 pub mod check;
 pub mod edge;
 pub mod independence;

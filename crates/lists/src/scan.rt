@@ -12,7 +12,7 @@ use ranges::refusal::Refusal;
 use ranges::side::{Side, side_of};
 
 // What a scan answers: the first match, or none; or a refusal.
-#[derive(Drop)]
+#[derive(Clone, Copy)]
 pub enum Match {
     Rule(usize),
     Nothing,

@@ -17,7 +17,7 @@ pub const MOST_NUMBERS: usize = MOST_RULES * MOST_FIELDS * 2;
 
 // What a list's numbers mean: the number of fields of a rule, and the flags that say which fields are dates, bit f for field f.
 // Flags past d, and bits past the eighth, alter nothing.
-#[derive(Drop)]
+#[derive(Clone, Copy)]
 pub struct Shape {
     pub d: usize,
     pub dates: u32,

@@ -33,5 +33,7 @@
 // What it costs. As much as a loop: `walk` is passed its two slices by reference and answers with one number, so that no call of
 // itself is handed a local of the caller, and the compiler makes the recursion a loop. `visit` unpacks the number into the
 // partition's answer, hit, miss or broken.
+#![tactic(auto)]
+
 pub mod lookup;
 pub mod walk;

@@ -15,7 +15,7 @@ use tables::read::part_count;
 
 // What a lookup answers: the first match, or none, with the range tests made, and of a match whether it has a field at an
 // end of its range; or a refusal. None and a refusal have no edge.
-#[derive(Drop)]
+#[derive(Clone, Copy)]
 pub enum Looked {
     Rule {
         rule: usize,

@@ -14,7 +14,7 @@ use ranges::side::{Range, is_below, is_past};
 use tables::layout::{from_at, order_at, to_at};
 
 // What a walk finds in a partition.
-#[derive(Drop)]
+#[derive(Clone, Copy)]
 pub enum Found {
     // A rule, by its number.
     Hit(u16),
@@ -22,14 +22,14 @@ pub enum Found {
 }
 
 // What a walk answers: what it found, with the tests made; or that the table is broken.
-#[derive(Drop)]
+#[derive(Clone, Copy)]
 pub enum Walked {
     Ran(Found, u16),
     Broken,
 }
 
 // What one test leaves: places s to before e at field f; or a broken table.
-#[derive(Drop)]
+#[derive(Clone, Copy)]
 pub enum Step {
     On { s: u16, e: u16, f: u16 },
     Broken,

@@ -5,4 +5,6 @@
 //
 // An answer is a word and numbers, each after a blank; a refusal is its number and its place. Each function puts one at a
 // place of a lent run of bytes, and answers the place after it.
+#![tactic(auto)]
+
 pub mod say;

@@ -8,6 +8,8 @@
 //     0   the job was done
 //     1   something was refused as a whole, or could not be read or written
 //     2   the program was not called as it is to be
+#![tactic(auto)]
+
 pub mod output;
 pub mod start;
 pub mod status;

@@ -3,7 +3,7 @@
 ghost use Rattle.io.specs.Counts.{IsPrefixLen};
 
 // Whether the exit status is to be told, and how many words are the program's own.
-#[derive(Drop)]
+#[derive(Clone, Copy)]
 pub struct Start {
     pub asked: bool,
     pub words: usize,

@@ -3,7 +3,7 @@ ghost use Rattle.std.specs.Prelude.{◌≡◌};
 ghost use Rattle.programs.specs.Status.{ended_of, digit_of};
 
 // How a program has ended.
-#[derive(Drop)]
+#[derive(Clone, Copy)]
 pub enum Ended {
     // The job was done.
     Done,

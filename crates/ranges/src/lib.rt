@@ -11,6 +11,8 @@
 // whether two share one, `is_under` whether one ends before the other begins, and `same_ends` whether they are equal.
 // `prefix_to_range` turns a prefix into its range. `range_to_prefixes` turns a range into prefixes: from the low end, always the largest aligned block that stays
 // in the range.
+#![tactic(auto)]
+
 pub mod expand;
 pub mod prefix;
 pub mod refusal;

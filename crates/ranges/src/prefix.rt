@@ -5,7 +5,7 @@ ghost use Rattle.ranges.specs.Prefixes.{bounds_of};
 use crate::refusal::{BAD_PREFIX, BAD_WIDTH, Refusal, refuse};
 
 // The low and the high end of a prefix, both counted, or a refusal.
-#[derive(Drop)]
+#[derive(Clone, Copy)]
 pub enum Bounds {
     Are(u32, u32),
     Refused(Refusal),

@@ -36,7 +36,7 @@ pub const EMPTY_PARTITION: u32 = 17;
 pub const CLASH_IN_PARTITION: u32 = 18;
 
 // A refusal: its number, and its place of two numbers. The number 0 says that nothing is refused.
-#[derive(Drop)]
+#[derive(Clone, Copy)]
 pub struct Refusal {
     pub number: u32,
     pub at: usize,
@@ -44,7 +44,7 @@ pub struct Refusal {
 }
 
 // What is counted: rules for a check, partitions for a build, pairs for a range; or a refusal.
-#[derive(Drop)]
+#[derive(Clone, Copy)]
 pub enum Count {
     Is(usize),
     Refused(Refusal),

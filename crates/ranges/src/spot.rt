@@ -5,7 +5,7 @@ ghost use Rattle.ranges.specs.Spots.{spot_of};
 use crate::side::Range;
 
 // Where a number lies as against the two ends of a range. All but below and above are inside it.
-#[derive(Drop)]
+#[derive(Clone, Copy)]
 pub enum Spot {
     // Less than low.
     Below,

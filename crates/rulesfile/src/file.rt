@@ -17,7 +17,7 @@ const MOST_LINES: u16 = MOST_RULES as u16;
 const MOST_CELLS: u32 = MOST_FIELDS as u32 * 2;
 
 // What the lines that have ended come to: how many they are, how many cells each has, and the first flaw.
-#[derive(Drop)]
+#[derive(Clone, Copy)]
 pub struct RulesSoFar {
     pub lines: u16,
     pub width: u16,
@@ -25,7 +25,7 @@ pub struct RulesSoFar {
 }
 
 // The same within a line, of which some bytes have come.
-#[derive(Drop)]
+#[derive(Clone, Copy)]
 pub struct RulesFile {
     pub reader: Reader,
     pub rules: RulesSoFar,
@@ -122,7 +122,7 @@ fn judged(rules: RulesSoFar, line: Line) -> RulesSoFar
 }
 
 // The rules file after some bytes more, and how many those were.
-#[derive(Drop)]
+#[derive(Clone, Copy)]
 struct RulesStep {
     file: RulesFile,
     used: usize,

@@ -22,6 +22,8 @@
 // A choice that someone brings (`run_fault.rt`) is tested before the first write: its length, that each number is below n,
 // that each up to the largest is used, and that no rule clashes with an earlier one of its partition. A build's own choice is
 // known to pass, and is not tested.
+#![tactic(auto)]
+
 pub mod build;
 pub mod choose;
 mod count_parts;

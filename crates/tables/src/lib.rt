@@ -10,6 +10,8 @@
 //
 // The opening. `open_fault` gives the refusals with which a lookup and a report begin. `report` says of a partition how many
 // places it has and which rule number the table stores as its smallest.
+#![tactic(auto)]
+
 pub mod layout;
 pub mod opening;
 pub mod read;

@@ -11,7 +11,7 @@ use lists::shape::{Shape, rules_in};
 use ranges::refusal::{BROKEN_TABLE, NO_SUCH_PARTITION, Refusal, refuse};
 
 // What a report answers.
-#[derive(Drop)]
+#[derive(Clone, Copy)]
 pub enum Part {
     // How many places the partition has, and its smallest rule number as the table stores it.
     Is { size: usize, least: usize },

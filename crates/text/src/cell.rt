@@ -3,7 +3,7 @@ ghost use Rattle.std.specs.Prelude.{◌≡◌, ◌<◌};
 ghost use Rattle.text.specs.Cells.{with_digit, with_byte};
 
 // What the bytes of a cell come to.
-#[derive(Drop)]
+#[derive(Clone, Copy)]
 pub enum Cell {
     // No byte yet.
     Empty,

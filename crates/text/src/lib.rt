@@ -9,6 +9,8 @@
 // a line may be cut anywhere into pieces and be of any length.
 //
 // Writing. Bytes are put at a place of a lent run, and the place after them is answered (`put`).
+#![tactic(auto)]
+
 pub mod cell;
 pub mod line;
 pub mod put;

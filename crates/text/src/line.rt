@@ -7,7 +7,7 @@ ghost use Rattle.text.specs.Lines.{no_line, no_bytes, has_feed, line_now, cell_e
 use crate::row::{Row, row_byte, row_next, row_start};
 
 // What has come of a line: whether any byte has, whether an LF stands in it, and its cells.
-#[derive(Drop)]
+#[derive(Clone, Copy)]
 pub struct Line {
     pub begun: bool,
     pub feed: bool,
@@ -15,14 +15,14 @@ pub struct Line {
 }
 
 // A line, and whether its last byte was a CR of which it is not known yet whether it ends the line.
-#[derive(Drop)]
+#[derive(Clone, Copy)]
 pub struct Reader {
     pub cr: bool,
     pub line: Line,
 }
 
 // What a reader did with bytes: the line then, how many bytes it took, and whether the line has ended.
-#[derive(Drop)]
+#[derive(Clone, Copy)]
 pub struct LineRead {
     pub reader: Reader,
     pub used: usize,

@@ -7,7 +7,7 @@ use crate::cell::{Cell, with_byte};
 
 // What has been read of a line: the cell that is being read, how many cells have ended, and the first of them that was
 // no number, counted from 1, or 0 while there is none.
-#[derive(Drop)]
+#[derive(Clone, Copy)]
 pub struct Row {
     pub cell: Cell,
     pub cells: u32,

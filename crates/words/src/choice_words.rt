@@ -16,7 +16,7 @@ use sorting::lay_out::lay_out;
 use text::put::put_text;
 
 // The calls of a list and a choice of partitions.
-#[derive(Drop)]
+#[derive(Clone, Copy)]
 pub enum ChoiceWord {
     Choose,
     Layout,

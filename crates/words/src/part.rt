@@ -7,7 +7,7 @@ use crate::limits::{LIST_MOST, TABLE_MOST};
 use lists::shape::Shape;
 
 // Where a part ends: the place after its last number. Missing, where the numbers are not as the part wants them.
-#[derive(Drop)]
+#[derive(Clone, Copy)]
 pub enum End {
     At(usize),
     Missing,
@@ -55,7 +55,7 @@ pub fn list_end(given: &[u32], more: usize) -> End
 }
 
 // Where a list and the table after it end.
-#[derive(Drop)]
+#[derive(Clone, Copy)]
 pub enum Ends {
     At(usize, usize),
     Missing,

@@ -18,7 +18,7 @@ use tables::report::report;
 use text::put::put_text;
 
 // The calls of a list and a table.
-#[derive(Drop)]
+#[derive(Clone, Copy)]
 pub enum TableWord {
     Build,
     Lookup,
