@@ -4,16 +4,9 @@ use borrow.Author.Rules.{rules}
 use Prim.Native.Nat.{◌<◌}
 use native.Mathlib.Omega.{arith}
 use Rattle.ranges.proofs.Widths.{shifted_one}
-use Rattle.ranges.proofs.expand.block_size.Statement.{statement}
-use Rattle.ranges.proofs.expand.block_size.Tie as tie
+use Rattle.ranges.proofs.expand.block_size.Goals as goal
 
-shl-result : tie.Need-shl-result
-shl-result c = search rules
-
-returns : tie.Need-returns
+pub returns : goal.returns
 returns c =
     let below : c.args.t < 64 = omega arith in
     shifted_one c.args.t 64 below
-
-pub block-size-spec : {M : Type 1} → statement M
-block-size-spec = tie.close (tie.spec shl-result returns)
