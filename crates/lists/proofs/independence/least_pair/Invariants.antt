@@ -1,0 +1,19 @@
+-- `lists::independence::least_pair` meets its contract. At the loop's head no rule below i has a partner (`Search.antt`); the measure is the
+-- rules left.
+-- Assumes nothing.
+use Prim.Native.Nat.{◌-◌}
+use mathlib.Core.Bool.{false}
+use mathlib.Core.Path.{refl}
+use borrow.Author.Rules.{rules}
+use native.Mathlib.Omega.{arith}
+use Rattle.lists.specs.Rules.{listed, rules_in}
+use Rattle.lists.specs.Independence.{has_partner}
+use Rattle.lists.proofs.Search.{Answered, answered-none, answered_more}
+use Rattle.lists.proofs.Meeting.{no_partner, pair_both, pair_none}
+use Rattle.lists.proofs.independence.least_pair.Given as goal
+
+abbrev pub invariant-loop-i : goal.invariant-loop-i
+invariant-loop-i l = Answered (has_partner (listed l.shape l.list)) false (rules_in (listed l.shape l.list)) l.i
+
+abbrev pub decreases-loop-i : goal.decreases-loop-i
+decreases-loop-i l = l.n - l.i

@@ -1,0 +1,18 @@
+-- `lists::independence::meet_all` meets its contract. At the loop's head the rules meet in every field below f (`Search.antt`); the measure is
+-- the fields left.
+-- Assumes nothing.
+use Prim.Native.Nat.{◌-◌}
+use mathlib.Core.Bool.{true}
+use borrow.Author.Tests.{not-true, not-false}
+use native.Mathlib.Omega.{arith}
+use Rattle.lists.specs.Rules.{listed}
+use Rattle.lists.specs.Independence.{meet_at, meet}
+use Rattle.lists.proofs.Rules.{has_field}
+use Rattle.lists.proofs.Search.{Answered, answered-none, answered_more, answered-all, answered-not}
+use Rattle.lists.proofs.independence.meet_all.Given as goal
+
+abbrev pub invariant-loop-f : goal.invariant-loop-f
+invariant-loop-f l = Answered (meet_at (listed l.shape l.list) l.i l.j) true l.shape.d l.f
+
+abbrev pub decreases-loop-f : goal.decreases-loop-f
+decreases-loop-f l = l.d - l.f

@@ -1,0 +1,16 @@
+-- `lists::independence::partner_of` meets its contract. At the loop's head no rule after i and below j meets rule i (`Meeting.antt`); the
+-- measure is the rules left.
+-- Assumes nothing.
+use Prim.Native.Nat.{◌-◌}
+use mathlib.Core.Path.{◌∙◌}
+use native.Mathlib.Omega.{arith}
+use Rattle.lists.specs.Rules.{listed}
+use Rattle.lists.proofs.Rules.{has_rule}
+use Rattle.lists.proofs.Meeting.{Sought, sought_none, sought_more, sought_met, sought_end}
+use Rattle.lists.proofs.independence.partner_of.Given as goal
+
+abbrev pub invariant-loop-j : goal.invariant-loop-j
+invariant-loop-j l = Sought (listed l.shape l.list) l.i l.j
+
+abbrev pub decreases-loop-j : goal.decreases-loop-j
+decreases-loop-j l = l.n - l.j

@@ -1,0 +1,18 @@
+-- `lists::scan::first_match` meets its contract. At the loop's head no rule below i fits (`Search.antt`); the measure is the rules left.
+-- Assumes nothing.
+use Prim.Native.Nat.{◌-◌}
+use mathlib.Core.Bool.{false}
+use mathlib.Core.Path.{◌∙◌}
+use borrow.Author.Rules.{rules}
+use native.Mathlib.Omega.{arith}
+use Rattle.lists.specs.Rules.{listed, rules_in}
+use Rattle.lists.specs.FirstMatch.{fits, first_match}
+use Rattle.lists.proofs.Rules.{has_rule}
+use Rattle.lists.proofs.Search.{Answered, answered-none, answered_more, answered-least, answered_end}
+use Rattle.lists.proofs.scan.first_match.Given as goal
+
+abbrev pub invariant-loop-i : goal.invariant-loop-i
+invariant-loop-i l = Answered (fits (listed l.shape l.list) l.header) false (rules_in (listed l.shape l.list)) l.i
+
+abbrev pub decreases-loop-i : goal.decreases-loop-i
+decreases-loop-i l = l.n - l.i
