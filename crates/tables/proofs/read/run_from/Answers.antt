@@ -1,0 +1,8 @@
+-- `tables::read::run_from` meets its contract: it reads where the layout says.
+-- Assumes nothing.
+use borrow.Author.Rules.{rules}
+use Rattle.tables.proofs.Readers.{read_at}
+use Rattle.tables.proofs.read.run_from.Goals as goal
+
+pub returns : goal.returns
+returns c = read_at c.args.table.now c.number_at.ensures c.from_at.ensures
