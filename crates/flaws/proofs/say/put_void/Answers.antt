@@ -1,0 +1,9 @@
+-- `flaws::say::put_void` meets its contract: its parts one after the other.
+-- Assumes nothing.
+use borrow.Author.Rules.{rules}
+use Rattle.text.proofs.Puts.{put_then}
+use Rattle.flaws.proofs.say.put_void.Goals as goal
+
+pub returns : goal.returns
+returns c =
+    put_then (put_then (put_then (put_then (put_then (put_then (put_then c.put_text-a.ensures c.put_number-b.ensures) c.put_text-c.ensures) c.put_number-d.ensures) c.put_text-e.ensures) c.put_number-f.ensures) c.put_text-g.ensures) c.put_number.ensures
