@@ -9,6 +9,8 @@ use Rattle.lists.proofs.Search.{Answered, answered-none, answered_more, answered
 use Rattle.sorting.specs.Marks.{stamp_of, unstamped}
 use native.Mathlib.Omega.{arith}
 use borrow.Author.Rules.{rules}
+use mathlib.Core.Bool.{not}
+use mathlib.Core.Path.{ap}
 use Rattle.sorting.proofs.choose.first_free.Goals as goal
 
 pub loop-q-init : goal.loop-q-init

@@ -6,6 +6,8 @@ use borrow.Author.Rules.{rules}
 use Rattle.lists.specs.Rules.{listed}
 use Rattle.lists.proofs.Search.{Answered, answered-none, answered-all, turn_not, turn_more}
 use Rattle.sorting.specs.Brought.{is_apart}
+use mathlib.Core.Bool.{not}
+use mathlib.Core.Path.{ap}
 use Rattle.sorting.proofs.run_fault.fits_in.Goals as goal
 
 pub loop-j-init : goal.loop-j-init
@@ -13,7 +15,7 @@ loop-j-init c = answered-none _ _ _
 
 pub returns-then-not-is_apart : goal.returns-then-not-is_apart
 returns-then-not-is_apart c =
-    turn_not c.loop-j.invariant c.loop-j-test.true c.is_apart.ensures c.if-not-is_apart.true
+    turn_not c.loop-j.invariant c.loop-j-test.true c.is_apart.ensures (ap not c.if-not-is_apart.true)
 
 pub overflow_add-j : goal.overflow_add-j
 overflow_add-j c = omega arith
@@ -23,7 +25,7 @@ loop-j-smaller c = omega arith
 
 pub loop-j-preserved : goal.loop-j-preserved
 loop-j-preserved c =
-    turn_more c.loop-j.invariant c.loop-j-test.true c.is_apart.ensures c.if-not-is_apart.false
+    turn_more c.loop-j.invariant c.loop-j-test.true c.is_apart.ensures (ap not c.if-not-is_apart.false)
 
 pub returns : goal.returns
 returns c = answered-all c.loop-j.invariant c.loop-j-test.false

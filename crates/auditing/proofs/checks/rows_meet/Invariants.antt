@@ -1,0 +1,16 @@
+-- `auditing::checks::rows_meet` meets its contract. At the loop's head each field below f of the two places is right; the measure is what is left of d.
+-- Assumes nothing.
+use Prim.Native.Nat.{◌-◌}
+use mathlib.Core.Bool.{true}
+use native.Mathlib.Omega.{arith}
+use borrow.Author.Rules.{rules}
+use Rattle.lists.proofs.Search.{Answered, answered-none, answered-all, turn_not, turn_more}
+use Rattle.tables.specs.Layout.{view}
+use Rattle.auditing.specs.Checks.{meets}
+use Rattle.auditing.proofs.checks.rows_meet.Given as goal
+
+abbrev pub invariant-loop-f : goal.invariant-loop-f
+invariant-loop-f l = Answered (meets (view l.n l.d l.table) l.a l.p) true l.d l.f
+
+abbrev pub decreases-loop-f : goal.decreases-loop-f
+decreases-loop-f l = l.d - l.f

@@ -1,0 +1,7 @@
+-- `rulesfile::file::rules_start` meets its contract.
+-- Assumes nothing.
+use borrow.Author.Rules.{rules}
+use Rattle.rulesfile.proofs.file.rules_start.Goals as goal
+
+pub returns : goal.returns
+returns c = cc
