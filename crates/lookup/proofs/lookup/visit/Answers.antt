@@ -1,0 +1,53 @@
+-- `lookup::lookup::visit` meets its contract: a partition that its starts break is not walked through, and any other is.
+-- Assumes nothing.
+use borrow.Author.Rules.{rules}
+use mathlib.Core.Path.{sym}
+use native.Mathlib.Omega.{arith}
+use Rattle.lists.specs.Rules.{listed}
+use Rattle.tables.specs.Layout.{view}
+use Rattle.lookup.proofs.Within.{few_rules, few_fields, start_read}
+use Rattle.lookup.proofs.Visits.{by-none, by_past, by_going, by_walk}
+use Rattle.lookup.proofs.lookup.visit.Goals as goal
+
+pub start_in-s-requires : goal.start_in-s-requires
+start_in-s-requires c = start_read c.requires.0 _ (omega (arith, c.requires.1))
+
+pub overflow_add-q : goal.overflow_add-q
+overflow_add-q c = omega (arith, c.requires.1, c.requires.0.rules, few_rules c.requires.0)
+
+pub start_in-e-requires : goal.start_in-e-requires
+start_in-e-requires c = start_read c.requires.0 _ (omega (arith, c.requires.1))
+
+-- no place
+pub returns-then-e-s : goal.returns-then-e-s
+returns-then-e-s c =
+    let a = c.args in
+    sym
+    (by-none (listed a.shape a.list.now) (view a.n a.shape.d a.table.now) a.header.now a.n a.q c.requires.0.rules
+    c.start_in-s.ensures c.start_in-e.ensures c.if-e-s.true)
+
+-- an end past n
+pub returns-then-n-e : goal.returns-then-n-e
+returns-then-n-e c =
+    let a = c.args in
+    sym
+    (by_past (listed a.shape a.list.now) (view a.n a.shape.d a.table.now) a.header.now a.n a.q c.requires.0.rules
+    c.start_in-s.ensures c.start_in-e.ensures c.if-e-s.false c.if-n-e.true)
+
+pub walk-requires : goal.walk-requires
+walk-requires c =
+    let a = c.args in
+    let lent = c.requires.0 in record {
+      ready = lent;
+      going = by_going (listed a.shape a.list.now) (view a.n a.shape.d a.table.now) a.header.now a.n a.q lent.rules
+          c.start_in-s.ensures c.start_in-e.ensures c.if-e-s.false c.if-n-e.false (omega arith) (omega (arith, lent.rules, few_rules lent)) (few_fields lent);
+    }
+
+-- the walk
+pub returns : goal.returns
+returns c =
+    let a = c.args in
+    let lent = c.requires.0 in
+    by_walk (listed a.shape a.list.now) (view a.n a.shape.d a.table.now) a.header.now a.n a.q lent.rules
+    c.start_in-s.ensures c.start_in-e.ensures c.if-e-s.false c.if-n-e.false (few_rules lent) (few_fields lent) _
+    c.walk.ensures _ c.unpack.ensures
