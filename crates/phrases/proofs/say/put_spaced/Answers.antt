@@ -1,0 +1,16 @@
+-- `words::say::put_spaced` meets its contract: a blank, and then the number.
+-- Assumes nothing.
+use borrow.Author.Rules.{rules}
+use Prim.Native.Nat.{◌<◌, ◌^◌}
+use native.Mathlib.Omega.{arith}
+use Rattle.text.proofs.Puts.{put_then}
+use Rattle.phrases.proofs.Few.{spaced_few}
+use Rattle.phrases.proofs.say.put_spaced.Goals as goal
+
+pub returns : goal.returns
+returns c =
+    let small : c.args.n < 2 ^ 64 = omega (arith, c.well_formed.0) in
+    record {
+      puts = put_then c.put_byte-next.ensures c.put_number.ensures;
+      few = spaced_few c.args.n small;
+    }

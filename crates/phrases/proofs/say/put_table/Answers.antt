@@ -1,0 +1,23 @@
+-- The answers that the check does not find alone.
+use borrow.Author.Rules.{rules}
+use Prim.Native.Nat.{◌-◌}
+use native.Mathlib.Omega.{arith}
+use lib.ListN.{length}
+use Rattle.phrases.proofs.Said.{PutFirst, first-none, first_more, first-all, first_long}
+use Rattle.phrases.proofs.say.put_table.Goals as goal
+
+pub loop-i-init : goal.loop-i-init
+loop-i-init c = first-none
+
+pub overflow_cast-numbers : goal.overflow_cast-numbers
+overflow_cast-numbers c = omega (arith, c.shared_slice_known-in-loop-i-1.given c.loop-i.i)
+
+pub loop-i-preserved : goal.loop-i-preserved
+loop-i-preserved c =
+    first_more c.loop-i.invariant c.loop-i-test.true c.put_spaced-place.ensures
+
+pub shape_of-out : goal.shape_of-out
+shape_of-out c = first_long c.loop-i.invariant
+
+pub returns : goal.returns
+returns c = first-all c.loop-i.invariant c.loop-i-test.false
