@@ -1,0 +1,10 @@
+-- `words::prefix_words::put_expanded` meets its contract: the count, the word, and the run as the library left it.
+-- Assumes nothing.
+use borrow.Author.Rules.{rules}
+use Rattle.text.specs.Texts.{bytes}
+use Rattle.words.proofs.Words.{counted_put}
+use Rattle.words.proofs.prefix_words.put_expanded.Goals as goal
+
+pub returns : goal.returns
+returns c =
+    record { put_few = counted_put (bytes " run") c.range_to_prefixes-count.ensures.value c.range_to_prefixes-count.ensures.out_after c.range_to_prefixes-count.auto.out c.put_count-a.ensures c.put_text-b.ensures c.put_all.ensures; run_after = c.range_to_prefixes-count.ensures.out_after }
