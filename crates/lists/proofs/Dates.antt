@@ -13,7 +13,7 @@ use mathlib.Core.Path.{◌≡◌, refl, sym, ap, ◌∙◌}
 use native.Mathlib.Nat.{zero-div}
 use borrow.Author.Tests.{lt-ltb, le-ltb}
 use lib.Dec.{ltb, eqb}
-use Rattle.ranges.specs.Numbers.{◌and◌, bit, tab}
+use Rattle.ranges.specs.Numbers.{bit, tab}
 use Rattle.ranges.specs.Sides.{end_of, closed_at, range_of}
 use Rattle.ranges.proofs.Numbers.{and_fails, bit_test, tab_at, tab_same, tab-zero}
 use Rattle.ranges.proofs.Sides.{past_date, past_other}

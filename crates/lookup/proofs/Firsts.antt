@@ -15,7 +15,7 @@ use mathlib.Core.Path.{◌≡◌, refl, sym, ap, ◌∙◌, subst}
 use native.Mathlib.Omega.{arith}
 use lib.Dec.{ltb}
 use borrow.Author.Tests.{ltb-true, ltb-false, eq-eqb}
-use Rattle.ranges.specs.Numbers.{least, ◌and◌}
+use Rattle.ranges.specs.Numbers.{least}
 use Rattle.ranges.specs.Refusals.{none}
 use Rattle.ranges.proofs.Numbers.{never, and_right, least_is, least-none}
 use Rattle.lists.specs.Rules.{Rules, fields_of, rules_in}

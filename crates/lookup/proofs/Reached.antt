@@ -16,7 +16,6 @@ use lib.ListN.{get_or, get_or-replicate}
 use lib.Dec.{ltb}
 use lib.Pow.{pow_pos}
 use borrow.Author.Tests.{lt-ltb, ltb-true, ltb-false}
-use Rattle.ranges.specs.Numbers.{least}
 use Rattle.ranges.specs.Refusals.{none}
 use Rattle.ranges.specs.Sides.{is_inside}
 use Rattle.ranges.specs.declared.side.Side.{Side}

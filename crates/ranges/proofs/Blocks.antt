@@ -11,7 +11,6 @@ use native.Mathlib.Nat.{mod-one, lt_of_lt_of_le}
 use lib.Dec.{leb, eqb}
 use lib.Pow.{pow_mono}
 use borrow.Author.Tests.{eq-eqb, le-leb, eqb-true, leb-true}
-use Rattle.ranges.specs.Numbers.{◌and◌}
 use Rattle.ranges.specs.Sides.{end_of}
 use Rattle.ranges.specs.Blocks.{block_fits, block_of, Ranged}
 use Rattle.ranges.proofs.Numbers.{and_left, and_right, greatest-holds}

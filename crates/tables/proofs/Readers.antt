@@ -9,7 +9,6 @@ use mathlib.Core.Path.{◌≡◌, sym, ap, ◌∙◌}
 use lib.ListN.{length, get_or, get_or-eq_default}
 use lib.Dec.{ltb, leb}
 use borrow.Author.Tests.{lt-ltb, le-ltb, ltb-true, leb-true}
-use Rattle.ranges.specs.Numbers.{◌and◌}
 use Rattle.ranges.proofs.Numbers.{and_left, and_right}
 use Rattle.tables.specs.Opening.{part_stands}
 

@@ -1,6 +1,5 @@
 -- `answers::answer::header_flaw` meets its contract, way by way.
 -- Assumes nothing.
-use borrow.Author.Rules.{rules}
 use mathlib.Core.Path.{sym}
 use Rattle.answers.proofs.Flaws.{flaw_feed, flaw_bad, flaw_none, flaw_other}
 use Rattle.answers.proofs.answer.header_flaw.Goals as goal

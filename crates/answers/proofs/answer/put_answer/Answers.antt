@@ -1,6 +1,5 @@
 -- `answers::answer::put_answer` meets its contract: a line with a flaw is refused, any other is looked up.
 -- Assumes nothing.
-use borrow.Author.Rules.{rules}
 use mathlib.Core.Path.{sym, ◌∙◌}
 use Rattle.answers.proofs.Flaws.{said_refused, said_looked}
 use Rattle.answers.proofs.answer.put_answer.Goals as goal

@@ -1,6 +1,5 @@
 -- `answers::complain::put_counted` meets its contract.
 -- Assumes nothing.
-use borrow.Author.Rules.{rules}
 use Rattle.text.proofs.Puts.{put_then}
 use Rattle.answers.proofs.complain.put_counted.Goals as goal
 

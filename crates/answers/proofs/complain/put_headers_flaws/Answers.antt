@@ -1,6 +1,5 @@
 -- `answers::complain::put_headers_flaws` meets its contract: its parts one after the other.
 -- Assumes nothing.
-use borrow.Author.Rules.{rules}
 use Rattle.text.proofs.Puts.{put_then}
 use Rattle.answers.proofs.complain.put_headers_flaws.Goals as goal
 

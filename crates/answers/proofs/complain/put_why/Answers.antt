@@ -1,6 +1,5 @@
 -- `answers::complain::put_why` meets its contract, flaw by flaw.
 -- Assumes nothing.
-use borrow.Author.Rules.{rules}
 use Rattle.text.proofs.Puts.{put_no_byte, put_then}
 use Rattle.answers.proofs.complain.put_why.Goals as goal
 

@@ -1,8 +1,6 @@
 -- `answers::count::counted` meets its contract, way by way.
 -- Assumes nothing.
-use borrow.Author.Rules.{rules}
 use mathlib.Core.Path.{sym, ◌∙◌}
-use borrow.Author.Tests.{not-true, not-false}
 use Rattle.answers.proofs.Flaws.{counted_fine, counted_first, counted_later}
 use Rattle.answers.proofs.count.counted.Goals as goal
 

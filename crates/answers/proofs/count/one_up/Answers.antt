@@ -1,6 +1,5 @@
 -- `answers::count::one_up` meets its contract.
 -- Assumes nothing.
-use borrow.Author.Rules.{rules}
 use mathlib.Core.Path.{sym}
 use Rattle.answers.proofs.Flaws.{up_more, up_stays}
 use Rattle.answers.proofs.count.one_up.Goals as goal

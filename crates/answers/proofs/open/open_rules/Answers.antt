@@ -1,6 +1,5 @@
 -- `answers::open::open_rules` meets its contract: the table is built once, and what that finds is printed.
 -- Assumes nothing.
-use borrow.Author.Rules.{rules}
 use Rattle.answers.proofs.Opening.{opened_refused, opened_head}
 use Rattle.answers.proofs.open.open_rules.Goals as goal
 

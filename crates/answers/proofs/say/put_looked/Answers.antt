@@ -1,6 +1,5 @@
 -- `answers::say::put_looked` meets its contract, case by case.
 -- Assumes nothing.
-use borrow.Author.Rules.{rules}
 use Rattle.text.proofs.Puts.{put_then}
 use native.Mathlib.Omega.{arith}
 use Rattle.answers.proofs.Lengths.{rule_short, none_short}

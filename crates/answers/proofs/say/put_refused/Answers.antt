@@ -1,6 +1,5 @@
 -- `answers::say::put_refused` meets its contract: the word, the number, the line's end.
 -- Assumes nothing.
-use borrow.Author.Rules.{rules}
 use Rattle.text.proofs.Puts.{put_then}
 use native.Mathlib.Omega.{arith}
 use Rattle.answers.proofs.Lengths.{refused_short}

@@ -1,6 +1,5 @@
 -- `answers::say::put_tests` meets its contract: a comma, the number, the line's end.
 -- Assumes nothing.
-use borrow.Author.Rules.{rules}
 use Rattle.text.proofs.Puts.{put_then}
 use native.Mathlib.Omega.{arith}
 use Rattle.answers.proofs.Lengths.{tests_short}

@@ -1,6 +1,5 @@
 -- `auditing::audit::audit` meets its contract: refused, or yes or no as the tests say.
 -- Assumes nothing.
-use borrow.Author.Rules.{rules}
 use Rattle.auditing.proofs.Audits.{audit_refused, audit_laid, audit_other}
 use Rattle.auditing.proofs.audit.audit.Goals as goal
 

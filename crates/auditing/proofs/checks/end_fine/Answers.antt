@@ -1,6 +1,5 @@
 -- `auditing::checks::end_fine` meets its contract: the first place's run-from, then the last place's run-to.
 -- Assumes nothing.
-use borrow.Author.Rules.{rules}
 use Rattle.tables.specs.Layout.{view}
 use Rattle.auditing.proofs.Checking.{end_not, end_test}
 use Rattle.auditing.proofs.checks.end_fine.Goals as goal

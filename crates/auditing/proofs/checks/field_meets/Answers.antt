@@ -1,6 +1,5 @@
 -- `auditing::checks::field_meets` meets its contract: what the other place and the fields alike ask for, held against both numbers.
 -- Assumes nothing.
-use borrow.Author.Rules.{rules}
 use Rattle.auditing.proofs.Checking.{meet-not, meet_test}
 use Rattle.auditing.proofs.checks.field_meets.Goals as goal
 

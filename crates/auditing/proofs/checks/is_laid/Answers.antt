@@ -1,7 +1,6 @@
 -- `auditing::checks::is_laid` meets its contract: each test before what relies on it.
 -- Assumes nothing.
 use native.Mathlib.Omega.{arith}
-use borrow.Author.Rules.{rules}
 use Rattle.auditing.proofs.Tested.{by-opening, laid_fields, laid_few, by_starts, by_rules, by_leasts, laid_parted, by_parts}
 use mathlib.Core.Bool.{not}
 use mathlib.Core.Path.{ap}

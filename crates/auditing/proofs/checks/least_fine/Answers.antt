@@ -1,6 +1,5 @@
 -- `auditing::checks::least_fine` meets its contract: q stands behind the partitions, or is one of them.
 -- Assumes nothing.
-use borrow.Author.Rules.{rules}
 use Rattle.tables.specs.Layout.{order_in, start_in, least_in}
 use Rattle.auditing.proofs.Checking.{least_behind, least_part}
 use Rattle.auditing.proofs.checks.least_fine.Goals as goal

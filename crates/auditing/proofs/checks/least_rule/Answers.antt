@@ -1,9 +1,6 @@
 -- The answers that the check does not find alone.
 use native.Mathlib.Omega.{arith}
-use borrow.Author.Rules.{rules}
-use Prim.Native.Nat.{◌-◌}
-use Rattle.tables.specs.Layout.{order_in}
-use Rattle.auditing.proofs.Minimum.{Lowest, lowest-none, lowest_more, lowest_end}
+use Rattle.auditing.proofs.Minimum.{lowest-none, lowest_more, lowest_end}
 use Rattle.auditing.proofs.checks.least_rule.Goals as goal
 
 pub loop-p-init : goal.loop-p-init

@@ -1,10 +1,8 @@
 -- `auditing::checks::least_rule` meets its contract. At the loop's head least is the smallest rule number of the places before p (`Lowest`); the measure is what is left of them.
 -- Assumes nothing.
-use native.Mathlib.Omega.{arith}
-use borrow.Author.Rules.{rules}
 use Prim.Native.Nat.{◌-◌}
 use Rattle.tables.specs.Layout.{order_in}
-use Rattle.auditing.proofs.Minimum.{Lowest, lowest-none, lowest_more, lowest_end}
+use Rattle.auditing.proofs.Minimum.{Lowest}
 use Rattle.auditing.proofs.checks.least_rule.Given as goal
 
 abbrev pub invariant-loop-p : goal.invariant-loop-p

@@ -1,13 +1,6 @@
 -- The answers that the check does not find alone.
-use Prim.Native.Nat.{◌-◌}
-use mathlib.Core.Bool.{true}
-use mathlib.Core.Path.{◌≡◌}
 use native.Mathlib.Omega.{arith}
-use borrow.Author.Rules.{rules}
-use lib.ListN.{get_or}
-use Rattle.lists.proofs.Search.{Answered, answered-none, answered-all, turn_not, turn_more}
-use Rattle.tables.specs.Layout.{b_at, order_in, start_in, least_in}
-use Rattle.auditing.specs.Checks.{least_fine}
+use Rattle.lists.proofs.Search.{answered-none, answered-all, turn_not, turn_more}
 use Rattle.auditing.proofs.Checking.{leasts_told}
 use mathlib.Core.Bool.{not}
 use mathlib.Core.Path.{ap}

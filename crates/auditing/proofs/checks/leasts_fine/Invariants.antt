@@ -3,13 +3,10 @@
 use Prim.Native.Nat.{◌-◌}
 use mathlib.Core.Bool.{true}
 use mathlib.Core.Path.{◌≡◌}
-use native.Mathlib.Omega.{arith}
-use borrow.Author.Rules.{rules}
 use lib.ListN.{get_or}
-use Rattle.lists.proofs.Search.{Answered, answered-none, answered-all, turn_not, turn_more}
+use Rattle.lists.proofs.Search.{Answered}
 use Rattle.tables.specs.Layout.{b_at, order_in, start_in, least_in}
 use Rattle.auditing.specs.Checks.{least_fine}
-use Rattle.auditing.proofs.Checking.{leasts_told}
 use Rattle.auditing.proofs.checks.leasts_fine.Given as goal
 
 abbrev pub invariant-loop-k : goal.invariant-loop-k

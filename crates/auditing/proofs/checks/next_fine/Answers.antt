@@ -1,6 +1,5 @@
 -- `auditing::checks::next_fine` meets its contract: the first rule comes before the second by field a, and the rows are right for a fields alike.
 -- Assumes nothing.
-use borrow.Author.Rules.{rules}
 use Rattle.auditing.proofs.Checking.{next_not, next_test}
 use Rattle.auditing.proofs.checks.next_fine.Goals as goal
 

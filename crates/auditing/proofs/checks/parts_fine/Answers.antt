@@ -1,14 +1,6 @@
 -- The answers that the check does not find alone.
-use Prim.Native.Nat.{◌-◌}
-use mathlib.Core.Bool.{true}
-use mathlib.Core.Path.{◌≡◌}
 use native.Mathlib.Omega.{arith}
-use borrow.Author.Rules.{rules}
-use lib.ListN.{get_or}
-use Rattle.lists.specs.Rules.{listed}
-use Rattle.lists.proofs.Search.{Answered, answered-none, answered-all, turn_not, turn_more}
-use Rattle.tables.specs.Layout.{view, b_at}
-use Rattle.auditing.specs.Checks.{part_fine}
+use Rattle.lists.proofs.Search.{answered-none, answered-all, turn_not, turn_more}
 use Rattle.auditing.proofs.Checking.{part_span, part_told}
 use mathlib.Core.Bool.{not}
 use mathlib.Core.Path.{ap}

@@ -3,14 +3,11 @@
 use Prim.Native.Nat.{◌-◌}
 use mathlib.Core.Bool.{true}
 use mathlib.Core.Path.{◌≡◌}
-use native.Mathlib.Omega.{arith}
-use borrow.Author.Rules.{rules}
 use lib.ListN.{get_or}
 use Rattle.lists.specs.Rules.{listed}
-use Rattle.lists.proofs.Search.{Answered, answered-none, answered-all, turn_not, turn_more}
+use Rattle.lists.proofs.Search.{Answered}
 use Rattle.tables.specs.Layout.{view, b_at}
 use Rattle.auditing.specs.Checks.{part_fine}
-use Rattle.auditing.proofs.Checking.{part_span, part_told}
 use Rattle.auditing.proofs.checks.parts_fine.Given as goal
 
 abbrev pub invariant-loop-q : goal.invariant-loop-q

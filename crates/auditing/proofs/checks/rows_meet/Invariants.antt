@@ -2,9 +2,7 @@
 -- Assumes nothing.
 use Prim.Native.Nat.{◌-◌}
 use mathlib.Core.Bool.{true}
-use native.Mathlib.Omega.{arith}
-use borrow.Author.Rules.{rules}
-use Rattle.lists.proofs.Search.{Answered, answered-none, answered-all, turn_not, turn_more}
+use Rattle.lists.proofs.Search.{Answered}
 use Rattle.tables.specs.Layout.{view}
 use Rattle.auditing.specs.Checks.{meets}
 use Rattle.auditing.proofs.checks.rows_meet.Given as goal

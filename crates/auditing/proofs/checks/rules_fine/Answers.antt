@@ -1,9 +1,6 @@
 -- The answers that the check does not find alone.
-use Prim.Native.Nat.{◌-◌}
 use native.Mathlib.Omega.{arith}
-use borrow.Author.Rules.{rules}
-use Rattle.tables.specs.Layout.{order_in}
-use Rattle.auditing.proofs.Checking.{Marked, marked_none, marked_over, marked_twice, marked_more, marked_end}
+use Rattle.auditing.proofs.Checking.{marked_none, marked_over, marked_twice, marked_more, marked_end}
 use Rattle.auditing.proofs.checks.rules_fine.Goals as goal
 
 pub loop-p-init : goal.loop-p-init

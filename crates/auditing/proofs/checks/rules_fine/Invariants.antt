@@ -1,10 +1,8 @@
 -- `auditing::checks::rules_fine` meets its contract. At the loop's head the rules of the first p places are marked (`Marked`); the measure is what is left of n.
 -- Assumes nothing.
 use Prim.Native.Nat.{◌-◌}
-use native.Mathlib.Omega.{arith}
-use borrow.Author.Rules.{rules}
 use Rattle.tables.specs.Layout.{order_in}
-use Rattle.auditing.proofs.Checking.{Marked, marked_none, marked_over, marked_twice, marked_more, marked_end}
+use Rattle.auditing.proofs.Checking.{Marked}
 use Rattle.auditing.proofs.checks.rules_fine.Given as goal
 
 abbrev pub invariant-loop-p : goal.invariant-loop-p

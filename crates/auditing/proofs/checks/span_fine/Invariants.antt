@@ -2,13 +2,10 @@
 -- Assumes nothing.
 use Prim.Native.Nat.{◌+◌, ◌-◌}
 use mathlib.Core.Bool.{true}
-use native.Mathlib.Omega.{arith}
-use borrow.Author.Rules.{rules}
 use Rattle.lists.specs.Rules.{listed}
-use Rattle.lists.proofs.Search.{Answered, answered-none, answered-all, turn_not, turn_more}
+use Rattle.lists.proofs.Search.{Answered}
 use Rattle.tables.specs.Layout.{view}
 use Rattle.auditing.specs.Checks.{next_fine}
-use Rattle.auditing.proofs.Checking.{span_not, span_by}
 use Rattle.auditing.proofs.checks.span_fine.Given as goal
 
 abbrev pub invariant-loop-k : goal.invariant-loop-k

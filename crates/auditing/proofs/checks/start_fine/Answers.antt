@@ -1,6 +1,5 @@
 -- `auditing::checks::start_fine` meets its contract: q is one of the partitions, or stands behind them.
 -- Assumes nothing.
-use borrow.Author.Rules.{rules}
 use Rattle.tables.specs.Layout.{start_in}
 use Rattle.auditing.proofs.Checking.{start_part, start_behind}
 use Rattle.auditing.proofs.checks.start_fine.Goals as goal

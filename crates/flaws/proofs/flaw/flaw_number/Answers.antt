@@ -1,6 +1,5 @@
 -- `flaws::flaw::flaw_number` meets its contract, flaw by flaw.
 -- Assumes nothing.
-use borrow.Author.Rules.{rules}
 use Rattle.flaws.proofs.flaw.flaw_number.Goals as goal
 
 pub returns-in-Nothing : goal.returns-in-Nothing

@@ -1,6 +1,5 @@
 -- `flaws::say::put_cells` meets its contract.
 -- Assumes nothing.
-use borrow.Author.Rules.{rules}
 use Rattle.text.proofs.Puts.{put_then}
 use Rattle.flaws.proofs.say.put_cells.Goals as goal
 

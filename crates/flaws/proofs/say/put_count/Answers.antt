@@ -1,6 +1,5 @@
 -- `flaws::say::put_count` meets its contract.
 -- Assumes nothing.
-use borrow.Author.Rules.{rules}
 use Rattle.flaws.proofs.Saying.{count_exact, count_many}
 use Rattle.flaws.proofs.say.put_count.Goals as goal
 

@@ -1,6 +1,5 @@
 -- `flaws::say::put_feed` meets its contract: its parts one after the other.
 -- Assumes nothing.
-use borrow.Author.Rules.{rules}
 use Rattle.text.proofs.Puts.{put_then}
 use Rattle.flaws.proofs.say.put_feed.Goals as goal
 

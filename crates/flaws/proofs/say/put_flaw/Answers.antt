@@ -1,6 +1,5 @@
 -- `flaws::say::put_flaw` meets its contract, flaw by flaw.
 -- Assumes nothing.
-use borrow.Author.Rules.{rules}
 use Rattle.text.proofs.Puts.{put_no_byte}
 use Rattle.flaws.proofs.say.put_flaw.Goals as goal
 

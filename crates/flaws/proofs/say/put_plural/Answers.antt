@@ -1,6 +1,5 @@
 -- `flaws::say::put_plural` meets its contract.
 -- Assumes nothing.
-use borrow.Author.Rules.{rules}
 use Rattle.text.proofs.Puts.{put_then}
 use Rattle.flaws.proofs.Saying.{plural_one, plural_other}
 use Rattle.flaws.proofs.say.put_plural.Goals as goal

@@ -1,6 +1,5 @@
 -- `hearing::flags::flag_byte` meets its contract: at each way out the tests that led there give the law of that answer.
 -- Assumes nothing.
-use borrow.Author.Rules.{rules}
 use Rattle.hearing.proofs.Dates.{flag_many, flag_off, flag_on, flag_other}
 use Rattle.hearing.proofs.flags.flag_byte.Goals as goal
 

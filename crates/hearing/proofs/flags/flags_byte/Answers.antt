@@ -1,6 +1,5 @@
 -- `hearing::flags::flags_byte` meets its contract, case by case.
 -- Assumes nothing.
-use borrow.Author.Rules.{rules}
 use Rattle.hearing.proofs.flags.flags_byte.Goals as goal
 
 -- flags have begun

@@ -1,6 +1,5 @@
 -- `hearing::flags::flags_end` meets its contract, case by case.
 -- Assumes nothing.
-use borrow.Author.Rules.{rules}
 use Rattle.hearing.proofs.flags.flags_end.Goals as goal
 
 -- flags have begun

@@ -1,11 +1,10 @@
 -- The answers that the check does not find alone.
 use borrow.Author.Rules.{rules}
-use Prim.Native.Nat.{◌≤◌, ◌-◌}
-use mathlib.Core.Path.{◌≡◌, refl, sym, ap, ◌∙◌}
+use Prim.Native.Nat.{◌≤◌}
+use mathlib.Core.Path.{refl, sym, ap, ◌∙◌}
 use native.Mathlib.Omega.{arith}
-use lib.ListN.{length, get_or, take}
+use lib.ListN.{length, get_or}
 use lib.Seq.{take_all}
-use Rattle.text.specs.Cells.{fed}
 use Rattle.text.proofs.Feeding.{fed_more}
 use Rattle.hearing.specs.Lines.{heard, heard_byte}
 use Rattle.hearing.proofs.line.hear.Goals as goal

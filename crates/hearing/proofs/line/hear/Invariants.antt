@@ -1,13 +1,9 @@
 -- `hearing::line::hear` meets its contract. At the loop's head the first i bytes are heard; the measure is what is left.
 -- Assumes nothing.
-use borrow.Author.Rules.{rules}
 use Prim.Native.Nat.{◌≤◌, ◌-◌}
-use mathlib.Core.Path.{◌≡◌, refl, sym, ap, ◌∙◌}
-use native.Mathlib.Omega.{arith}
-use lib.ListN.{length, get_or, take}
-use lib.Seq.{take_all}
+use mathlib.Core.Path.{◌≡◌}
+use lib.ListN.{length, take}
 use Rattle.text.specs.Cells.{fed}
-use Rattle.text.proofs.Feeding.{fed_more}
 use Rattle.hearing.specs.Lines.{heard, heard_byte}
 use Rattle.hearing.proofs.line.hear.Given as goal
 

@@ -1,6 +1,5 @@
 -- `hearing::line::line_byte` meets its contract: each way out is the law of its case.
 -- Assumes nothing.
-use borrow.Author.Rules.{rules}
 use Rattle.hearing.proofs.Lines.{number_ends_lem, number_takes_lem, name_ends_lem, name_takes_lem}
 use Rattle.hearing.proofs.line.line_byte.Goals as goal
 

@@ -1,10 +1,9 @@
 -- The answers that the check does not find alone.
 use borrow.Author.Rules.{rules}
-use Prim.Native.Nat.{ℕ, ◌≤◌, ◌<◌, ◌-◌}
 use mathlib.Core.Path.{◌≡◌, sym, ◌∙◌}
 use native.Mathlib.Omega.{arith}
 use borrow.Author.Count.{below_more}
-use lib.ListN.{length, get_or}
+use lib.ListN.{length}
 use Rattle.hearing.proofs.Lines.{line_ends, line_none}
 use Rattle.hearing.proofs.line.line_in.Goals as goal
 

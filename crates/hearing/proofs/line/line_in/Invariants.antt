@@ -1,12 +1,8 @@
 -- `hearing::line::line_in` meets its contract. At the loop's head no byte before i is LF; the measure is what is left.
 -- Assumes nothing.
-use borrow.Author.Rules.{rules}
 use Prim.Native.Nat.{ℕ, ◌≤◌, ◌<◌, ◌-◌}
-use mathlib.Core.Path.{◌≡◌, sym, ◌∙◌}
-use native.Mathlib.Omega.{arith}
-use borrow.Author.Count.{below_more}
+use mathlib.Core.Path.{◌≡◌}
 use lib.ListN.{length, get_or}
-use Rattle.hearing.proofs.Lines.{line_ends, line_none}
 use Rattle.hearing.proofs.line.line_in.Given as goal
 
 abbrev pub invariant-loop-i : goal.invariant-loop-i

@@ -1,6 +1,5 @@
 -- `hearing::line::line_start` meets its contract.
 -- Assumes nothing.
-use borrow.Author.Rules.{rules}
 use mathlib.Core.Path.{ap}
 use Rattle.hearing.specs.Lines.{line_of}
 use mathlib.Core.Bool.{false}

@@ -1,6 +1,5 @@
 -- `hearing::line::number_byte` meets its contract: each way out is the law of its case.
 -- Assumes nothing.
-use borrow.Author.Rules.{rules}
 use Rattle.hearing.proofs.Lines.{later_takes, flags_take, flags_begin, first_takes}
 use Rattle.hearing.proofs.line.number_byte.Goals as goal
 

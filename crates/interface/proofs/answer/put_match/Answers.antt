@@ -1,6 +1,5 @@
 -- `interface::answer::put_match` meets its contract: in each case of the answer the numbers written are those that it says.
 -- Assumes nothing.
-use borrow.Author.Rules.{rules}
 use Rattle.interface.proofs.Telling.{told}
 use Rattle.interface.proofs.answer.put_match.Goals as goal
 

@@ -1,6 +1,5 @@
 -- `interface::prefix::cuy_prefix_to_range` meets its contract: what is told of the library's answer is told of what the library's contract says.
 -- Assumes nothing.
-use borrow.Author.Rules.{rules}
 use Rattle.interface.proofs.prefix.cuy_prefix_to_range.Goals as goal
 
 pub returns : goal.returns

@@ -1,6 +1,5 @@
 -- `interface::prefix::cuy_range_to_prefixes` meets its contract: what is told of the library's answer is told of what the library's contract says, and so of the run.
 -- Assumes nothing.
-use borrow.Author.Rules.{rules}
 use Rattle.interface.proofs.prefix.cuy_range_to_prefixes.Goals as goal
 
 pub returns : goal.returns

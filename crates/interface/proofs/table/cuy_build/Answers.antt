@@ -1,6 +1,5 @@
 -- `interface::table::cuy_build` meets its contract: what is told of the library's answer is told of what the library's contract says, and so of the table.
 -- Assumes nothing.
-use borrow.Author.Rules.{rules}
 use Rattle.interface.proofs.table.cuy_build.Goals as goal
 
 pub returns : goal.returns

@@ -1,6 +1,5 @@
 -- `interface::table::cuy_choose` meets its contract: what is told of the library's answer is told of what the library's contract says, and so of the run.
 -- Assumes nothing.
-use borrow.Author.Rules.{rules}
 use Rattle.interface.proofs.table.cuy_choose.Goals as goal
 
 pub returns : goal.returns

@@ -1,6 +1,5 @@
 -- `interface::table::cuy_report` meets its contract: what is told of the library's answer is told of what the library's contract says.
 -- Assumes nothing.
-use borrow.Author.Rules.{rules}
 use Rattle.interface.proofs.table.cuy_report.Goals as goal
 
 pub returns : goal.returns

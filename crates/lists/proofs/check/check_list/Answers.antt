@@ -1,6 +1,5 @@
 -- `lists::check::check_list` meets its contract: what the list's refusal is, and else the number of its rules.
 -- Assumes nothing.
-use borrow.Author.Rules.{rules}
 use mathlib.Core.Path.{ap, ◌∙◌}
 use Rattle.ranges.specs.declared.refusal.Count.TheVariants.{Is, Refused}
 use Rattle.lists.proofs.Faults.{by-refused, by-stands}

@@ -1,13 +1,9 @@
 -- The answers that the check does not find alone.
-use Prim.Native.Nat.{◌-◌}
-use mathlib.Core.Bool.{false}
 use mathlib.Core.Path.{refl, ◌∙◌}
-use borrow.Author.Rules.{rules}
 use native.Mathlib.Omega.{arith}
-use Rattle.lists.specs.Rules.{listed, rules_in}
 use Rattle.lists.proofs.Rules.{has_rule}
-use Rattle.lists.proofs.Search.{Answered, answered-none, answered_more}
-use Rattle.lists.proofs.Voids.{bad, bad_no, ends_4, ends_stands}
+use Rattle.lists.proofs.Search.{answered-none, answered_more}
+use Rattle.lists.proofs.Voids.{bad_no, ends_4, ends_stands}
 use Rattle.lists.proofs.check.ends_fault.Goals as goal
 
 pub overflow_cast-d : goal.overflow_cast-d

@@ -1,6 +1,5 @@
 -- `lists::check::list_fault` meets its contract: what the shape refuses, and else what the ends refuse.
 -- Assumes nothing.
-use borrow.Author.Rules.{rules}
 use mathlib.Core.Path.{◌∙◌}
 use Rattle.lists.proofs.Faults.{by-refused, by-stands, by_shaped}
 use Rattle.lists.proofs.check.list_fault.Goals as goal

@@ -1,10 +1,7 @@
 -- The answers that the check does not find alone.
-use Prim.Native.Nat.{◌-◌}
-use mathlib.Core.Bool.{false}
 use native.Mathlib.Omega.{arith}
-use Rattle.lists.specs.Rules.{listed, is_void}
 use Rattle.lists.proofs.Rules.{has_field}
-use Rattle.lists.proofs.Search.{Answered, answered-none, answered_more, answered-least, answered_end}
+use Rattle.lists.proofs.Search.{answered-none, answered_more, answered-least, answered_end}
 use Rattle.lists.proofs.check.void_field.Goals as goal
 
 pub overflow_cast-d : goal.overflow_cast-d

@@ -2,10 +2,8 @@
 -- Assumes nothing.
 use Prim.Native.Nat.{◌-◌}
 use mathlib.Core.Bool.{false}
-use native.Mathlib.Omega.{arith}
 use Rattle.lists.specs.Rules.{listed, is_void}
-use Rattle.lists.proofs.Rules.{has_field}
-use Rattle.lists.proofs.Search.{Answered, answered-none, answered_more, answered-least, answered_end}
+use Rattle.lists.proofs.Search.{Answered}
 use Rattle.lists.proofs.check.void_field.Given as goal
 
 abbrev pub invariant-loop-f : goal.invariant-loop-f

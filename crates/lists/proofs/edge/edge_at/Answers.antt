@@ -1,11 +1,8 @@
 -- The answers that the check does not find alone.
-use Prim.Native.Nat.{◌-◌}
-use mathlib.Core.Bool.{false}
 use native.Mathlib.Omega.{arith}
-use Rattle.lists.specs.Rules.{listed}
-use Rattle.lists.specs.Edges.{end_at, edge_of}
+use Rattle.lists.specs.Edges.{edge_of}
 use Rattle.lists.proofs.Rules.{has_field}
-use Rattle.lists.proofs.Search.{Answered, answered-none, answered_more, answered_one, answered_none_of}
+use Rattle.lists.proofs.Search.{answered-none, answered_more, answered_one, answered_none_of}
 use Rattle.lists.proofs.edge.edge_at.Goals as goal
 
 pub overflow_cast-d : goal.overflow_cast-d

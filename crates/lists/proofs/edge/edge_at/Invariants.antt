@@ -2,11 +2,9 @@
 -- Assumes nothing.
 use Prim.Native.Nat.{◌-◌}
 use mathlib.Core.Bool.{false}
-use native.Mathlib.Omega.{arith}
 use Rattle.lists.specs.Rules.{listed}
-use Rattle.lists.specs.Edges.{end_at, edge_of}
-use Rattle.lists.proofs.Rules.{has_field}
-use Rattle.lists.proofs.Search.{Answered, answered-none, answered_more, answered_one, answered_none_of}
+use Rattle.lists.specs.Edges.{end_at}
+use Rattle.lists.proofs.Search.{Answered}
 use Rattle.lists.proofs.edge.edge_at.Given as goal
 
 abbrev pub invariant-loop-f : goal.invariant-loop-f

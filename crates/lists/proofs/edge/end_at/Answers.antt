@@ -1,6 +1,5 @@
 -- `lists::edge::end_at` meets its contract: the range is the rule's and the number the header's in the field.
 -- Assumes nothing.
-use borrow.Author.Rules.{rules}
 use Rattle.lists.specs.Rules.{listed}
 use Rattle.lists.proofs.Edges.{end_read}
 use Rattle.lists.proofs.edge.end_at.Goals as goal

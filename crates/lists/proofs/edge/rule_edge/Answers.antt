@@ -1,7 +1,5 @@
 -- `lists::edge::rule_edge` meets its contract: a rule that the list does not have is at no edge, and one that it has is tested.
 -- Assumes nothing.
-use borrow.Author.Rules.{rules}
-use borrow.Author.Tests.{not-true, not-false}
 use Rattle.lists.specs.Edges.{rule_edge}
 use Rattle.lists.proofs.InList.{in_told_by, listed-rule, unlisted, if_listed}
 use Rattle.lists.proofs.edge.rule_edge.Goals as goal

@@ -1,6 +1,5 @@
 -- `lists::independence::independence` meets its contract: what the list's refusal is, and else the least pair.
 -- Assumes nothing.
-use borrow.Author.Rules.{rules}
 use mathlib.Core.Path.{◌∙◌}
 use Rattle.lists.specs.declared.independence.Pair.TheVariants.{Refused}
 use Rattle.lists.proofs.Faults.{by-refused, by-stands, by-listed}

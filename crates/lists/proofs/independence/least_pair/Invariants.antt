@@ -3,13 +3,9 @@
 -- Assumes nothing.
 use Prim.Native.Nat.{◌-◌}
 use mathlib.Core.Bool.{false}
-use mathlib.Core.Path.{refl}
-use borrow.Author.Rules.{rules}
-use native.Mathlib.Omega.{arith}
 use Rattle.lists.specs.Rules.{listed, rules_in}
 use Rattle.lists.specs.Independence.{has_partner}
-use Rattle.lists.proofs.Search.{Answered, answered-none, answered_more}
-use Rattle.lists.proofs.Meeting.{no_partner, pair_both, pair_none}
+use Rattle.lists.proofs.Search.{Answered}
 use Rattle.lists.proofs.independence.least_pair.Given as goal
 
 abbrev pub invariant-loop-i : goal.invariant-loop-i

@@ -1,12 +1,8 @@
 -- The answers that the check does not find alone.
-use Prim.Native.Nat.{◌-◌}
-use mathlib.Core.Bool.{true}
-use borrow.Author.Tests.{not-true, not-false}
 use native.Mathlib.Omega.{arith}
-use Rattle.lists.specs.Rules.{listed}
-use Rattle.lists.specs.Independence.{meet_at, meet}
+use Rattle.lists.specs.Independence.{meet}
 use Rattle.lists.proofs.Rules.{has_field}
-use Rattle.lists.proofs.Search.{Answered, answered-none, answered_more, answered-all, answered-not}
+use Rattle.lists.proofs.Search.{answered-none, answered_more, answered-all, answered-not}
 use Rattle.lists.proofs.independence.meet_all.Goals as goal
 
 pub overflow_cast-d : goal.overflow_cast-d

@@ -3,12 +3,9 @@
 -- Assumes nothing.
 use Prim.Native.Nat.{◌-◌}
 use mathlib.Core.Bool.{true}
-use borrow.Author.Tests.{not-true, not-false}
-use native.Mathlib.Omega.{arith}
 use Rattle.lists.specs.Rules.{listed}
-use Rattle.lists.specs.Independence.{meet_at, meet}
-use Rattle.lists.proofs.Rules.{has_field}
-use Rattle.lists.proofs.Search.{Answered, answered-none, answered_more, answered-all, answered-not}
+use Rattle.lists.specs.Independence.{meet_at}
+use Rattle.lists.proofs.Search.{Answered}
 use Rattle.lists.proofs.independence.meet_all.Given as goal
 
 abbrev pub invariant-loop-f : goal.invariant-loop-f

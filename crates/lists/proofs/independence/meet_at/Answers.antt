@@ -2,7 +2,6 @@
 -- Assumes nothing.
 use Rattle.lists.specs.Rules.{listed}
 use Rattle.lists.proofs.Meeting.{meet-read}
-use borrow.Author.Rules.{rules}
 use Rattle.lists.proofs.independence.meet_at.Goals as goal
 
 pub returns : goal.returns

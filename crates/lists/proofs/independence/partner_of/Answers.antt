@@ -1,10 +1,8 @@
 -- The answers that the check does not find alone.
-use Prim.Native.Nat.{◌-◌}
 use mathlib.Core.Path.{◌∙◌}
 use native.Mathlib.Omega.{arith}
-use Rattle.lists.specs.Rules.{listed}
 use Rattle.lists.proofs.Rules.{has_rule}
-use Rattle.lists.proofs.Meeting.{Sought, sought_none, sought_more, sought_met, sought_end}
+use Rattle.lists.proofs.Meeting.{sought_none, sought_more, sought_met, sought_end}
 use Rattle.lists.proofs.independence.partner_of.Goals as goal
 
 pub overflow_add-j : goal.overflow_add-j

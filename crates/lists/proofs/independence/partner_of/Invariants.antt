@@ -2,11 +2,8 @@
 -- measure is the rules left.
 -- Assumes nothing.
 use Prim.Native.Nat.{◌-◌}
-use mathlib.Core.Path.{◌∙◌}
-use native.Mathlib.Omega.{arith}
 use Rattle.lists.specs.Rules.{listed}
-use Rattle.lists.proofs.Rules.{has_rule}
-use Rattle.lists.proofs.Meeting.{Sought, sought_none, sought_more, sought_met, sought_end}
+use Rattle.lists.proofs.Meeting.{Sought}
 use Rattle.lists.proofs.independence.partner_of.Given as goal
 
 abbrev pub invariant-loop-j : goal.invariant-loop-j

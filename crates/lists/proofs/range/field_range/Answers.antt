@@ -1,6 +1,5 @@
 -- `lists::range::field_range` meets its contract: the flag says whether the range is one of dates.
 -- Assumes nothing.
-use borrow.Author.Rules.{rules}
 use Rattle.lists.proofs.range.field_range.Goals as goal
 
 pub returns : goal.returns

@@ -1,7 +1,6 @@
 -- `lists::range::once_asked` meets its contract: where no flag is set the range is no range of dates.
 -- Assumes nothing.
 use mathlib.Core.Path.{◌∙◌}
-use borrow.Author.Rules.{rules}
 use Rattle.lists.proofs.Dates.{plain_range}
 use Rattle.lists.proofs.range.once_asked.Goals as goal
 

@@ -1,13 +1,9 @@
 -- The answers that the check does not find alone.
-use Prim.Native.Nat.{◌-◌}
-use mathlib.Core.Bool.{false}
 use mathlib.Core.Path.{◌∙◌}
-use borrow.Author.Rules.{rules}
 use native.Mathlib.Omega.{arith}
-use Rattle.lists.specs.Rules.{listed, rules_in}
-use Rattle.lists.specs.FirstMatch.{fits, first_match}
+use Rattle.lists.specs.FirstMatch.{first_match}
 use Rattle.lists.proofs.Rules.{has_rule}
-use Rattle.lists.proofs.Search.{Answered, answered-none, answered_more, answered-least, answered_end}
+use Rattle.lists.proofs.Search.{answered-none, answered_more, answered-least, answered_end}
 use Rattle.lists.proofs.scan.first_match.Goals as goal
 
 pub overflow_cast-n : goal.overflow_cast-n

@@ -2,13 +2,9 @@
 -- Assumes nothing.
 use Prim.Native.Nat.{◌-◌}
 use mathlib.Core.Bool.{false}
-use mathlib.Core.Path.{◌∙◌}
-use borrow.Author.Rules.{rules}
-use native.Mathlib.Omega.{arith}
 use Rattle.lists.specs.Rules.{listed, rules_in}
-use Rattle.lists.specs.FirstMatch.{fits, first_match}
-use Rattle.lists.proofs.Rules.{has_rule}
-use Rattle.lists.proofs.Search.{Answered, answered-none, answered_more, answered-least, answered_end}
+use Rattle.lists.specs.FirstMatch.{fits}
+use Rattle.lists.proofs.Search.{Answered}
 use Rattle.lists.proofs.scan.first_match.Given as goal
 
 abbrev pub invariant-loop-i : goal.invariant-loop-i

@@ -1,12 +1,8 @@
 -- The answers that the check does not find alone.
-use Prim.Native.Nat.{◌-◌}
-use mathlib.Core.Bool.{true}
-use borrow.Author.Tests.{not-true, not-false}
 use native.Mathlib.Omega.{arith}
-use Rattle.lists.specs.Rules.{listed}
-use Rattle.lists.specs.FirstMatch.{inside_at, fits}
+use Rattle.lists.specs.FirstMatch.{fits}
 use Rattle.lists.proofs.Rules.{has_field}
-use Rattle.lists.proofs.Search.{Answered, answered-none, answered_more, answered-all, answered-not}
+use Rattle.lists.proofs.Search.{answered-none, answered_more, answered-all, answered-not}
 use Rattle.lists.proofs.scan.fits_at.Goals as goal
 
 pub overflow_cast-d : goal.overflow_cast-d

@@ -4,7 +4,6 @@
 use Rattle.ranges.specs.declared.side.Side.TheVariants.{Below, Above, Inside}
 use Rattle.lists.specs.Rules.{listed}
 use Rattle.lists.proofs.Fitting.{inside_read}
-use borrow.Author.Rules.{rules}
 use Rattle.lists.proofs.scan.inside_at.Goals as goal
 
 pub returns-in-Below : goal.returns-in-Below

@@ -1,6 +1,5 @@
 -- `lists::scan::plain_scan` meets its contract: what the list's refusal is, and else what the search for the first match ends at.
 -- Assumes nothing.
-use borrow.Author.Rules.{rules}
 use mathlib.Core.Path.{◌∙◌}
 use Rattle.lists.specs.declared.scan.Match.TheVariants.{Refused}
 use Rattle.lists.proofs.Faults.{by-refused, by-stands, by-listed}

@@ -1,7 +1,5 @@
 -- `lists::scan::rule_fits` meets its contract: a rule that the list does not have does not fit, and one that it has is tested.
 -- Assumes nothing.
-use borrow.Author.Rules.{rules}
-use borrow.Author.Tests.{not-true, not-false}
 use Rattle.lists.specs.Scan.{fits_in}
 use Rattle.lists.proofs.InList.{in_told_by, listed-rule, unlisted, if_listed}
 use Rattle.lists.proofs.scan.rule_fits.Goals as goal

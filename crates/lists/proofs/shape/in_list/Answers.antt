@@ -1,6 +1,5 @@
 -- `lists::shape::in_list` meets its contract: at each way out the tests that led there give the law of that answer.
 -- Assumes nothing.
-use borrow.Author.Rules.{rules}
 use Rattle.lists.proofs.InList.{in_no_fields, in_many_fields, in_by}
 use Rattle.lists.proofs.shape.in_list.Goals as goal
 

@@ -1,6 +1,5 @@
 -- `lists::shape::is_date` meets its contract: there are eight flags, and shifted by f the number's lowest bit is flag f.
 -- Assumes nothing.
-use borrow.Author.Rules.{rules}
 use Rattle.lists.proofs.Dates.{flag_none, flag_by}
 use Rattle.lists.proofs.shape.is_date.Goals as goal
 

@@ -1,6 +1,5 @@
 -- `lists::shape::room_fault` meets its contract: at each way out the tests that led there give the law of that refusal.
 -- Assumes nothing.
-use borrow.Author.Rules.{rules}
 use mathlib.Core.Path.{sym, ◌∙◌}
 use Rattle.lists.proofs.InUse.{room_no_fields, room_many_fields, room_other_length, room_stands}
 use Rattle.lists.proofs.shape.room_fault.Goals as goal

@@ -1,6 +1,5 @@
 -- `lists::shape::rules_in` meets its contract: halving first and dividing by d then is dividing by 2d.
 -- Assumes nothing.
-use borrow.Author.Rules.{rules}
 use mathlib.Core.Path.{sym}
 use Rattle.lists.proofs.Rules.{rules-none, rules_halved}
 use Rattle.lists.proofs.shape.rules_in.Goals as goal

@@ -1,6 +1,5 @@
 -- `lists::shape::shape_fault` meets its contract: at each way out the tests that led there give the law of that refusal.
 -- Assumes nothing.
-use borrow.Author.Rules.{rules}
 use mathlib.Core.Path.{sym, ◌∙◌}
 use native.Mathlib.Omega.{arith}
 use Rattle.lists.specs.Rules.{listed}

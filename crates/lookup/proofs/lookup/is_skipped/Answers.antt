@@ -1,6 +1,5 @@
 -- `lookup::lookup::is_skipped` meets its contract: without a candidate nothing is skipped, with one the stored number decides.
 -- Assumes nothing.
-use borrow.Author.Rules.{rules}
 use Rattle.tables.specs.Layout.{least_in}
 use Rattle.lookup.proofs.Turns.{skips-not, skips_test}
 use Rattle.lookup.proofs.lookup.is_skipped.Goals as goal

@@ -1,6 +1,5 @@
 -- `lookup::lookup::least_in` meets its contract: it reads where `least_at` says.
 -- Assumes nothing.
-use borrow.Author.Rules.{rules}
 use Rattle.lookup.proofs.lookup.least_in.Goals as goal
 
 pub returns : goal.returns

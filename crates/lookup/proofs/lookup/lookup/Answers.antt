@@ -1,6 +1,5 @@
 -- `lookup::lookup::lookup` meets its contract: a table that does not open is refused as `open_fault` says; one that opens is searched.
 -- Assumes nothing.
-use borrow.Author.Rules.{rules}
 use native.Mathlib.Omega.{arith}
 use Rattle.lookup.proofs.Lookups.{by-refused, by_few, by_ready, by_parts, by_search}
 use Rattle.lookup.proofs.lookup.lookup.Goals as goal

@@ -1,6 +1,5 @@
 -- `lookup::lookup::start_in` meets its contract: it reads where `start_at` says.
 -- Assumes nothing.
-use borrow.Author.Rules.{rules}
 use Rattle.lookup.proofs.lookup.start_in.Goals as goal
 
 pub returns : goal.returns

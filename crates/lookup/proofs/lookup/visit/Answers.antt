@@ -1,6 +1,5 @@
 -- `lookup::lookup::visit` meets its contract: a partition that its starts break is not walked through, and any other is.
 -- Assumes nothing.
-use borrow.Author.Rules.{rules}
 use mathlib.Core.Path.{sym}
 use native.Mathlib.Omega.{arith}
 use Rattle.lists.specs.Rules.{listed}

@@ -1,14 +1,12 @@
 -- The answers that the check does not find alone.
-use borrow.Author.Rules.{rules}
 use mathlib.Core.Path.{sym, ap, ◌∙◌}
 use native.Mathlib.Omega.{arith}
-use Prim.Native.Nat.{◌-◌, ◌≤◌}
 use Rattle.lists.specs.Rules.{listed}
 use Rattle.tables.specs.Layout.{view}
 use Rattle.lookup.specs.declared.lookup.Looked.TheVariants.{Refused}
 use Rattle.lookup.proofs.Within.{few_rules, few_fields, least-read}
 use Rattle.lookup.proofs.Visits.{told_few}
-use Rattle.lookup.proofs.Turns.{Visited, visited_none, visited_skipped, visited_broken, visited_miss, visited_sooner, visited_later, visited_match, visited_nothing}
+use Rattle.lookup.proofs.Turns.{visited_none, visited_skipped, visited_broken, visited_miss, visited_sooner, visited_later, visited_match, visited_nothing}
 use Rattle.lookup.proofs.lookup.visit_all.Goals as goal
 
 pub loop-q-init : goal.loop-q-init

@@ -1,16 +1,10 @@
 -- `lookup::lookup::visit_all` meets its contract. At the loop's head the partitions before q had their turn, and what is left decides
 -- the answer (`Turns.antt`: `Visited`); the measure is how many are left. The total stays small: at most 18 tests a partition.
 -- Assumes nothing.
-use borrow.Author.Rules.{rules}
-use mathlib.Core.Path.{sym, ap, ◌∙◌}
-use native.Mathlib.Omega.{arith}
-use Prim.Native.Nat.{◌-◌, ◌≤◌}
+use Prim.Native.Nat.{◌-◌}
 use Rattle.lists.specs.Rules.{listed}
 use Rattle.tables.specs.Layout.{view}
-use Rattle.lookup.specs.declared.lookup.Looked.TheVariants.{Refused}
-use Rattle.lookup.proofs.Within.{few_rules, few_fields, least-read}
-use Rattle.lookup.proofs.Visits.{told_few}
-use Rattle.lookup.proofs.Turns.{Visited, visited_none, visited_skipped, visited_broken, visited_miss, visited_sooner, visited_later, visited_match, visited_nothing}
+use Rattle.lookup.proofs.Turns.{Visited}
 use Rattle.lookup.proofs.lookup.visit_all.Given as goal
 
 abbrev pub invariant-loop-q : goal.invariant-loop-q

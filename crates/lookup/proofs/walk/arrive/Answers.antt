@@ -1,7 +1,5 @@
 -- `lookup::walk::arrive` meets its contract: at each way out the tests that led there give the law of that end.
 -- Assumes nothing.
-use borrow.Author.Rules.{rules}
-use borrow.Author.Tests.{not-true, not-false}
 use mathlib.Core.Path.{sym, ◌∙◌}
 use native.Mathlib.Omega.{arith}
 use Rattle.lookup.proofs.Within.{order_read}

@@ -1,6 +1,5 @@
 -- `lookup::walk::from_in` meets its contract: it reads where `from_at` says.
 -- Assumes nothing.
-use borrow.Author.Rules.{rules}
 use Rattle.lookup.proofs.walk.from_in.Goals as goal
 
 pub returns : goal.returns

@@ -1,17 +1,10 @@
 -- `lookup::walk::one_step` meets its contract: the middle of a group that is not empty is a place of the table, so what is read
 -- at it lies within; and at each way out the tests that led there give the law of that outcome.
 -- Assumes nothing.
-use borrow.Author.Rules.{rules}
-use borrow.Author.Tests.{not-true, not-false}
-use mathlib.Core.Path.{◌≡◌, sym, ◌∙◌}
+use mathlib.Core.Path.{sym, ◌∙◌}
 use native.Mathlib.Omega.{arith}
-use Rattle.ranges.specs.declared.side.Side.{Side}
 use Rattle.ranges.specs.declared.side.Side.TheVariants.{Below, Above, Inside}
-use Rattle.lists.specs.Rules.{listed}
-use Rattle.lists.specs.FirstMatch.{side_at}
 use Rattle.lists.proofs.Fitting.{below_read, above_read, within-read}
-use Rattle.tables.specs.Layout.{view}
-use Rattle.lookup.specs.Walk.{leaves, step_of}
 use Rattle.lookup.proofs.Within.{few_fields, order_read, from_read, to_read, field_read}
 use Rattle.lookup.proofs.Steps.{step_beyond, step_astray, step_by}
 use Rattle.lookup.proofs.walk.one_step.Goals as goal

@@ -1,6 +1,5 @@
 -- `lookup::walk::pack` meets its contract: each way out is a case of the answer.
 -- Assumes nothing.
-use borrow.Author.Rules.{rules}
 use Rattle.lookup.proofs.Packing.{packs_miss, packs_hit}
 use Rattle.lookup.proofs.walk.pack.Goals as goal
 

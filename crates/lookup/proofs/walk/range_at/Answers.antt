@@ -2,7 +2,6 @@
 -- Assumes nothing.
 use mathlib.Core.Path.{◌∙◌}
 use Rattle.lists.proofs.Rules.{range_read}
-use borrow.Author.Rules.{rules}
 use Rattle.lookup.proofs.walk.range_at.Goals as goal
 
 pub returns : goal.returns

@@ -1,6 +1,5 @@
 -- `lookup::walk::rule_in` meets its contract: it reads where `order_at` says.
 -- Assumes nothing.
-use borrow.Author.Rules.{rules}
 use Rattle.lookup.proofs.walk.rule_in.Goals as goal
 
 pub returns : goal.returns

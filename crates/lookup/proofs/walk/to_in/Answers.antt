@@ -1,6 +1,5 @@
 -- `lookup::walk::to_in` meets its contract: it reads where `to_at` says.
 -- Assumes nothing.
-use borrow.Author.Rules.{rules}
 use Rattle.lookup.proofs.walk.to_in.Goals as goal
 
 pub returns : goal.returns

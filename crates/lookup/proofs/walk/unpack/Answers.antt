@@ -1,6 +1,5 @@
 -- `lookup::walk::unpack` meets its contract: at each way out the tests that led there give what the number stands for.
 -- Assumes nothing.
-use borrow.Author.Rules.{rules}
 use mathlib.Core.Path.{sym}
 use Rattle.lookup.proofs.Packing.{unpack_broken, unpack_miss, unpack_hit}
 use Rattle.lookup.proofs.walk.unpack.Goals as goal

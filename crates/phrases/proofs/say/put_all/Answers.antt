@@ -1,9 +1,6 @@
 -- The answers that the check does not find alone.
-use borrow.Author.Rules.{rules}
-use Prim.Native.Nat.{◌-◌}
 use native.Mathlib.Omega.{arith}
-use lib.ListN.{length}
-use Rattle.phrases.proofs.Said.{PutFirst, first-none, first_more, first-all, first_long}
+use Rattle.phrases.proofs.Said.{first-none, first_more, first-all, first_long}
 use Rattle.phrases.proofs.say.put_all.Goals as goal
 
 pub loop-i-init : goal.loop-i-init

@@ -1,11 +1,9 @@
 -- `words::say::put_all` meets its contract. At the loop's head the first i numbers are put (`Said.antt`); the measure is what is
 -- left of them.
 -- Assumes nothing.
-use borrow.Author.Rules.{rules}
 use Prim.Native.Nat.{◌-◌}
-use native.Mathlib.Omega.{arith}
 use lib.ListN.{length}
-use Rattle.phrases.proofs.Said.{PutFirst, first-none, first_more, first-all, first_long}
+use Rattle.phrases.proofs.Said.{PutFirst}
 use Rattle.phrases.proofs.say.put_all.Given as goal
 
 abbrev pub invariant-loop-i : goal.invariant-loop-i

@@ -1,6 +1,5 @@
 -- `words::say::put_one` meets its contract: the text, and a number after it.
 -- Assumes nothing.
-use borrow.Author.Rules.{rules}
 use native.Mathlib.Omega.{arith}
 use Rattle.phrases.proofs.Few.{few_text, few_then}
 use Rattle.phrases.proofs.say.put_one.Goals as goal

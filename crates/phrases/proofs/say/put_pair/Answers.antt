@@ -1,6 +1,5 @@
 -- `words::say::put_pair` meets its contract, case by case.
 -- Assumes nothing.
-use borrow.Author.Rules.{rules}
 use native.Mathlib.Omega.{arith}
 use Rattle.phrases.proofs.Few.{few_text, few_more}
 use Rattle.phrases.proofs.say.put_pair.Goals as goal

@@ -1,6 +1,5 @@
 -- `words::say::put_part` meets its contract, case by case.
 -- Assumes nothing.
-use borrow.Author.Rules.{rules}
 use native.Mathlib.Omega.{arith}
 use Rattle.phrases.proofs.Few.{few_more}
 use Rattle.phrases.proofs.say.put_part.Goals as goal

@@ -1,6 +1,5 @@
 -- `words::say::put_refused` meets its contract: the word, and three numbers after it.
 -- Assumes nothing.
-use borrow.Author.Rules.{rules}
 use native.Mathlib.Omega.{arith}
 use Rattle.phrases.proofs.Few.{few_then, few_more}
 use Rattle.phrases.proofs.say.put_refused.Goals as goal

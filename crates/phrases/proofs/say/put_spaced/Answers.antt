@@ -1,6 +1,5 @@
 -- `words::say::put_spaced` meets its contract: a blank, and then the number.
 -- Assumes nothing.
-use borrow.Author.Rules.{rules}
 use Prim.Native.Nat.{◌<◌, ◌^◌}
 use native.Mathlib.Omega.{arith}
 use Rattle.text.proofs.Puts.{put_then}

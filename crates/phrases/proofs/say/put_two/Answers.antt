@@ -1,6 +1,5 @@
 -- `words::say::put_two` meets its contract: the text and a number, and a number after them.
 -- Assumes nothing.
-use borrow.Author.Rules.{rules}
 use native.Mathlib.Omega.{arith}
 use Rattle.phrases.proofs.Few.{few_then, few_more}
 use Rattle.phrases.proofs.say.put_two.Goals as goal

@@ -1,6 +1,5 @@
 -- `ranges::expand::block_size` meets its contract: a shift by at most 32 stays in a word.
 -- Assumes nothing.
-use borrow.Author.Rules.{rules}
 use Prim.Native.Nat.{◌<◌}
 use native.Mathlib.Omega.{arith}
 use Rattle.ranges.proofs.Widths.{shifted_one}

@@ -1,9 +1,9 @@
 -- The answers that the check does not find alone.
-use Prim.Native.Nat.{◌-◌, ◌+◌, ◌^◌}
+use Prim.Native.Nat.{◌^◌}
 use mathlib.Core.Path.{ap, ◌∙◌}
 use native.Mathlib.Omega.{arith}
 use Rattle.ranges.proofs.Blocks.{high_few}
-use Rattle.ranges.proofs.Passes.{Left, left_start, left_more, left_end, step_few, exponent_few, ranged_on}
+use Rattle.ranges.proofs.Passes.{left_start, left_more, left_end, step_few, exponent_few, ranged_on}
 use Rattle.ranges.proofs.expand.count_prefixes.Goals as goal
 
 pub loop-next-init : goal.loop-next-init

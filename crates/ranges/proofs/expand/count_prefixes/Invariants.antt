@@ -1,11 +1,8 @@
 -- `ranges::expand::count_prefixes` meets its contract. The loop's invariant: those counted and those that are left make up the prefixes
 -- of the whole range (`Left`, in `Passes.antt`). The measure is how many numbers are left.
 -- Assumes nothing.
-use Prim.Native.Nat.{◌-◌, ◌+◌, ◌^◌}
-use mathlib.Core.Path.{ap, ◌∙◌}
-use native.Mathlib.Omega.{arith}
-use Rattle.ranges.proofs.Blocks.{high_few}
-use Rattle.ranges.proofs.Passes.{Left, left_start, left_more, left_end, step_few, exponent_few, ranged_on}
+use Prim.Native.Nat.{◌-◌, ◌+◌}
+use Rattle.ranges.proofs.Passes.{Left}
 use Rattle.ranges.proofs.expand.count_prefixes.Given as goal
 
 abbrev pub invariant-loop-next : goal.invariant-loop-next

@@ -1,6 +1,5 @@
 -- `ranges::expand::range_fault` meets its contract: at each way out the tests that led there give the law of that refusal.
 -- Assumes nothing.
-use borrow.Author.Rules.{rules}
 use mathlib.Core.Path.{sym, ◌∙◌}
 use Rattle.ranges.proofs.Prefixes.{past_ones, within_ones}
 use Rattle.ranges.proofs.RangeFaults.{range_9_few, range_9_many, range_11_order, range_11_high, range_stands}

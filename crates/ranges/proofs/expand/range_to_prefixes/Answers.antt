@@ -1,7 +1,6 @@
 -- `ranges::expand::range_to_prefixes` meets its contract: at each way out the tests that led there give the law of the answer and of the
 -- run afterwards (`RangeFaults.antt`). The prefixes are counted before the first write.
 -- Assumes nothing.
-use borrow.Author.Rules.{rules}
 use mathlib.Core.Path.{◌∙◌}
 use Rattle.ranges.proofs.RangeFaults.{expand_refused, expand_ranged, expand_12, expand_room, expand_is}
 use Rattle.ranges.proofs.expand.range_to_prefixes.Goals as goal

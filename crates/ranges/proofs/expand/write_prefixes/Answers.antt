@@ -1,10 +1,10 @@
 -- The answers that the check does not find alone.
-use Prim.Native.Nat.{◌-◌, ◌+◌, ◌^◌, ◌≤◌}
+use Prim.Native.Nat.{◌^◌}
 use mathlib.Core.Path.{ap, ◌∙◌}
 use native.Mathlib.Omega.{arith}
 use lib.ListN.{length-set}
 use Rattle.ranges.proofs.Blocks.{high_few}
-use Rattle.ranges.proofs.Passes.{Written, written_start, written_more, written_end, room_here, same_long, step_few, exponent_few, ranged_on}
+use Rattle.ranges.proofs.Passes.{written_start, written_more, written_end, room_here, same_long, step_few, exponent_few, ranged_on}
 use Rattle.ranges.proofs.expand.write_prefixes.Goals as goal
 
 pub loop-at-init : goal.loop-at-init

@@ -1,12 +1,8 @@
 -- `ranges::expand::write_prefixes` meets its contract. The loop's invariant: the run holds the prefixes passed at its front, and these
 -- with those that are left make up the prefixes of the whole range (`Written`, in `Passes.antt`). The measure is how many numbers are left.
 -- Assumes nothing.
-use Prim.Native.Nat.{◌-◌, ◌+◌, ◌^◌, ◌≤◌}
-use mathlib.Core.Path.{ap, ◌∙◌}
-use native.Mathlib.Omega.{arith}
-use lib.ListN.{length-set}
-use Rattle.ranges.proofs.Blocks.{high_few}
-use Rattle.ranges.proofs.Passes.{Written, written_start, written_more, written_end, room_here, same_long, step_few, exponent_few, ranged_on}
+use Prim.Native.Nat.{◌-◌, ◌+◌}
+use Rattle.ranges.proofs.Passes.{Written}
 use Rattle.ranges.proofs.expand.write_prefixes.Given as goal
 
 abbrev pub invariant-loop-at : goal.invariant-loop-at

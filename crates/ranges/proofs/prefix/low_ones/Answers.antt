@@ -1,6 +1,5 @@
 -- `ranges::prefix::low_ones` meets its contract: below 32 the shift is 2 ^ k, and at 32 the number is written out.
 -- Assumes nothing.
-use borrow.Author.Rules.{rules}
 use Prim.Native.Nat.{◌-◌, ◌^◌, ◌<◌}
 use mathlib.Core.Path.{sym, ap}
 use native.Mathlib.Omega.{arith}

@@ -1,7 +1,6 @@
 -- `ranges::prefix::prefix_to_range` meets its contract: at each way out the tests that led there give the law of that answer. A mask
 -- of the ones below the prefix tells whether a bit is set there, and or-ing it gives the high end.
 -- Assumes nothing.
-use borrow.Author.Rules.{rules}
 use Prim.Native.Nat.{◌-◌}
 use mathlib.Core.Logic.{inl, inr}
 use mathlib.Core.Path.{sym, ap, ◌∙◌}

@@ -1,6 +1,5 @@
 -- `ranges::side::meets` meets its contract: the second low decides where the first is before the other's end.
 -- Assumes nothing.
-use borrow.Author.Rules.{rules}
 use Rattle.ranges.proofs.Sides.{meets-not, meets-by}
 use Rattle.ranges.proofs.side.meets.Goals as goal
 

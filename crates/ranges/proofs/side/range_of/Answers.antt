@@ -1,6 +1,5 @@
 -- `ranges::side::range_of` meets its contract: of dates, nothing comes past high.
 -- Assumes nothing.
-use borrow.Author.Rules.{rules}
 use Rattle.ranges.proofs.Sides.{past_date, past_other}
 use Rattle.ranges.proofs.side.range_of.Goals as goal
 

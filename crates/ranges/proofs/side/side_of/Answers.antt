@@ -1,7 +1,6 @@
 -- `ranges::side::side_of` meets its contract: the side is the one that the number's spot is on.
 -- Assumes nothing.
 use mathlib.Core.Path.{ap, ◌∙◌}
-use borrow.Author.Rules.{rules}
 use Rattle.ranges.specs.Sides.{side_in, side_of}
 use Rattle.ranges.proofs.side.side_of.Goals as goal
 

@@ -1,7 +1,6 @@
 -- `ranges::spot::spot_of` meets its contract: at each way out the tests that led there are the facts of that outcome.
 -- Assumes nothing.
 use mathlib.Core.Path.{sym}
-use borrow.Author.Rules.{rules}
 use native.Mathlib.Omega.{arith}
 use Rattle.ranges.proofs.Spots.{sits_below, sits_above, sits_both, sits_low, sits_high, sits_between, spot_is}
 use Rattle.ranges.proofs.spot.spot_of.Goals as goal

@@ -1,6 +1,5 @@
 -- `rulesfile::file::judged` meets its contract: the first flaw is kept, and a line without one adds its rule.
 -- Assumes nothing.
-use borrow.Author.Rules.{rules}
 use mathlib.Core.Path.{sym, ◌∙◌}
 use native.Mathlib.Omega.{arith}
 use Rattle.rulesfile.proofs.Steps.{judged_kept, judged_flawed, judged-fine, fine_few, fine_narrow}

@@ -1,6 +1,5 @@
 -- `rulesfile::file::line_at` meets its contract: a product of two numbers of 16 bits stays below 2^32.
 -- Assumes nothing.
-use borrow.Author.Rules.{rules}
 use native.Mathlib.Omega.{arith}
 use Rattle.lists.proofs.Rules.{square_few}
 use Rattle.rulesfile.proofs.file.line_at.Goals as goal

@@ -1,6 +1,5 @@
 -- `rulesfile::file::line_flaw` meets its contract, way by way.
 -- Assumes nothing.
-use borrow.Author.Rules.{rules}
 use mathlib.Core.Path.{sym, ◌∙◌}
 use Rattle.rulesfile.proofs.Flaws.{line_many, line_feed, line_bad, line_first, line_same, line_other}
 use Rattle.rulesfile.proofs.file.line_flaw.Goals as goal

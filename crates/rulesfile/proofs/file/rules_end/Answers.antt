@@ -1,6 +1,5 @@
 -- `rulesfile::file::rules_end` meets its contract: a last line that no CRLF ends is judged.
 -- Assumes nothing.
-use borrow.Author.Rules.{rules}
 use borrow.Author.Tests.{not-true, not-false}
 use Rattle.rulesfile.proofs.Steps.{end_stays, end_judged}
 use Rattle.rulesfile.proofs.file.rules_end.Goals as goal

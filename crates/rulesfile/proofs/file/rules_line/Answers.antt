@@ -1,6 +1,5 @@
 -- `rulesfile::file::rules_line` meets its contract: where the line ends, it is judged and a new one begins.
 -- Assumes nothing.
-use borrow.Author.Rules.{rules}
 use borrow.Author.Tests.{not-true, not-false}
 use Rattle.rulesfile.proofs.Steps.{took_open, took_ends}
 use Rattle.rulesfile.proofs.file.rules_line.Goals as goal

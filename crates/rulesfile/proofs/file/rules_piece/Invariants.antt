@@ -1,14 +1,9 @@
 -- `rulesfile::file::rules_piece` meets its contract. At the loop's head the first i bytes are read; the measure is what is left.
 -- Assumes nothing.
-use borrow.Author.Rules.{rules}
 use Prim.Native.Nat.{◌-◌, ◌≤◌}
-use mathlib.Core.Path.{◌≡◌, refl, sym, ap, ◌∙◌}
-use native.Mathlib.Omega.{arith}
-use lib.ListN.{length, take, drop}
-use lib.Seq.{take_all}
+use mathlib.Core.Path.{◌≡◌}
+use lib.ListN.{length, take}
 use Rattle.text.specs.Cells.{fed}
-use Rattle.text.proofs.Feeding.{fed_on}
-use Rattle.text.proofs.Files.{line_on_lem}
 use Rattle.rulesfile.specs.Bytes.{rules_in_file, rules_step}
 use Rattle.rulesfile.proofs.file.rules_piece.Given as goal
 

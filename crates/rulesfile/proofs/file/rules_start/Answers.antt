@@ -1,6 +1,5 @@
 -- `rulesfile::file::rules_start` meets its contract.
 -- Assumes nothing.
-use borrow.Author.Rules.{rules}
 use Rattle.rulesfile.proofs.file.rules_start.Goals as goal
 
 pub returns : goal.returns

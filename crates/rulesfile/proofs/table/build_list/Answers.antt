@@ -1,6 +1,5 @@
 -- `rulesfile::table::build_list` meets its contract: the build's own answer is used.
 -- Assumes nothing.
-use borrow.Author.Rules.{rules}
 use Rattle.rulesfile.proofs.Tabling.{build_place, built_fine, built_refused}
 use Rattle.rulesfile.proofs.table.build_list.Goals as goal
 

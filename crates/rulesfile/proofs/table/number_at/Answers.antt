@@ -1,6 +1,5 @@
 -- `rulesfile::table::number_at` meets its contract.
 -- Assumes nothing.
-use borrow.Author.Rules.{rules}
 use mathlib.Core.Path.{sym}
 use lib.ListN.{get_or-eq_default}
 use Rattle.rulesfile.proofs.table.number_at.Goals as goal

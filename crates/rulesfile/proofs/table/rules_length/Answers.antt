@@ -1,6 +1,5 @@
 -- `rulesfile::table::rules_length` meets its contract: a product of two numbers of 16 bits stays below 2^64.
 -- Assumes nothing.
-use borrow.Author.Rules.{rules}
 use Prim.Native.Nat.{ℕ, ◌*◌, ◌^◌, ◌<◌}
 use native.Mathlib.Omega.{arith}
 use Rattle.lists.proofs.Rules.{square_few}

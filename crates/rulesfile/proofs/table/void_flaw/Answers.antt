@@ -1,6 +1,5 @@
 -- `rulesfile::table::void_flaw` meets its contract: the place has 16 bits.
 -- Assumes nothing.
-use borrow.Author.Rules.{rules}
 use native.Mathlib.Omega.{arith}
 use Rattle.rulesfile.proofs.Tabling.{offset_few, void_is}
 use Rattle.rulesfile.proofs.table.void_flaw.Goals as goal

@@ -1,6 +1,5 @@
 -- `sorting::build::build` meets its contract: a refusal leaves the table as lent, and else every number is written.
 -- Assumes nothing.
-use borrow.Author.Rules.{rules}
 use Rattle.sorting.proofs.Answering.Building.{built_refused, built_fine, built_written}
 use Rattle.sorting.proofs.build.build.Goals as goal
 

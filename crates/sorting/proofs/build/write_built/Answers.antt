@@ -1,7 +1,6 @@
 -- `sorting::build::write_built` meets its contract: the run is first fit's, the rules are put in order by it, and the table is written with
 -- them (`Building.antt`).
 -- Assumes nothing.
-use borrow.Author.Rules.{rules}
 use mathlib.Core.Path.{sym, ◌∙◌}
 use Rattle.lists.specs.Limits.{most_rules}
 use Rattle.sorting.proofs.Writing.Room.{room_long}

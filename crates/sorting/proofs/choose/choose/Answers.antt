@@ -1,6 +1,5 @@
 -- `sorting::choose::choose` meets its contract: a refusal leaves the run as lent, and else each rule's number is written.
 -- Assumes nothing.
-use borrow.Author.Rules.{rules}
 use Rattle.sorting.proofs.Answering.InTurn.{chosen_refused, chosen_fine, chosen_into}
 use Rattle.sorting.proofs.choose.choose.Goals as goal
 

@@ -1,7 +1,6 @@
 -- `sorting::choose::choose_fault` meets its contract: 1, 2, 3, 4, and then 15.
 -- Assumes nothing.
 use mathlib.Core.Path.{◌∙◌}
-use borrow.Author.Rules.{rules}
 use Rattle.lists.proofs.Faults.{by-refused, by-stands}
 use Rattle.sorting.specs.Brought.{choose_fault}
 use Rattle.sorting.proofs.choose.choose_fault.Goals as goal

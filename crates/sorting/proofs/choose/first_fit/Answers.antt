@@ -1,11 +1,8 @@
 -- The answers that the check does not find alone.
-use Prim.Native.Nat.{◌-◌}
-use mathlib.Core.Path.{◌≡◌, sym}
+use mathlib.Core.Path.{sym}
 use lib.Seq.{length-take-le}
-use Rattle.lists.specs.Rules.{listed, rules_in}
-use Rattle.sorting.proofs.Partitions.Choosing.{Choosing, choosing_none, choosing_marks, choosing_more, choosing_fits, choosing_count, choosing_part, choosing_long, choosing_numbers, choosing_end}
+use Rattle.sorting.proofs.Partitions.Choosing.{choosing_none, choosing_marks, choosing_more, choosing_fits, choosing_count, choosing_part, choosing_long, choosing_numbers, choosing_end}
 use native.Mathlib.Omega.{arith}
-use borrow.Author.Rules.{rules}
 use Rattle.sorting.proofs.choose.first_fit.Goals as goal
 
 pub loop-i-init : goal.loop-i-init

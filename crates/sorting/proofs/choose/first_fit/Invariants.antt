@@ -1,12 +1,9 @@
 -- `sorting::choose::first_fit` meets its contract. At the loop's head the first i rules have first fit's numbers (`Choosing`); the measure is what is left of n.
 -- Assumes nothing.
 use Prim.Native.Nat.{◌-◌}
-use mathlib.Core.Path.{◌≡◌, sym}
-use lib.Seq.{length-take-le}
+use mathlib.Core.Path.{◌≡◌}
 use Rattle.lists.specs.Rules.{listed, rules_in}
-use Rattle.sorting.proofs.Partitions.Choosing.{Choosing, choosing_none, choosing_marks, choosing_more, choosing_fits, choosing_count, choosing_part, choosing_long, choosing_numbers, choosing_end}
-use native.Mathlib.Omega.{arith}
-use borrow.Author.Rules.{rules}
+use Rattle.sorting.proofs.Partitions.Choosing.{Choosing}
 use Rattle.sorting.proofs.choose.first_fit.Given as goal
 
 abbrev pub invariant-loop-i : goal.invariant-loop-i

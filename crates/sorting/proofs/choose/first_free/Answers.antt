@@ -1,14 +1,11 @@
 -- The answers that the check does not find alone.
-use Prim.Native.Nat.{suc, ◌+◌, ◌-◌}
-use mathlib.Core.Bool.{false, not}
+use Prim.Native.Nat.{suc}
+use mathlib.Core.Bool.{not}
 use mathlib.Core.Path.{◌≡◌, refl, ap, ◌∙◌}
-use lib.Dec.{eqb}
-use lib.ListN.{get_or}
 use borrow.Author.Tests.{eq-eqb, ne_eqb}
-use Rattle.lists.proofs.Search.{Answered, answered-none, answered_more, answered-least, answered_end}
-use Rattle.sorting.specs.Marks.{stamp_of, unstamped}
+use Rattle.lists.proofs.Search.{answered-none, answered_more, answered-least, answered_end}
+use Rattle.sorting.specs.Marks.{unstamped}
 use native.Mathlib.Omega.{arith}
-use borrow.Author.Rules.{rules}
 use mathlib.Core.Bool.{not}
 use mathlib.Core.Path.{ap}
 use Rattle.sorting.proofs.choose.first_free.Goals as goal

@@ -2,14 +2,10 @@
 -- Assumes nothing.
 use Prim.Native.Nat.{suc, ◌+◌, ◌-◌}
 use mathlib.Core.Bool.{false, not}
-use mathlib.Core.Path.{◌≡◌, refl, ap, ◌∙◌}
 use lib.Dec.{eqb}
 use lib.ListN.{get_or}
-use borrow.Author.Tests.{eq-eqb, ne_eqb}
-use Rattle.lists.proofs.Search.{Answered, answered-none, answered_more, answered-least, answered_end}
-use Rattle.sorting.specs.Marks.{stamp_of, unstamped}
-use native.Mathlib.Omega.{arith}
-use borrow.Author.Rules.{rules}
+use Rattle.lists.proofs.Search.{Answered}
+use Rattle.sorting.specs.Marks.{stamp_of}
 use Rattle.sorting.proofs.choose.first_free.Given as goal
 
 abbrev pub invariant-loop-q : goal.invariant-loop-q

@@ -1,9 +1,6 @@
 -- The answers that the check does not find alone.
-use Prim.Native.Nat.{◌-◌}
-use Rattle.lists.specs.Rules.{listed}
-use Rattle.sorting.proofs.Partitions.Stamps.{Stamping, part_few, stamping_none, stamping_more, stamping_end}
+use Rattle.sorting.proofs.Partitions.Stamps.{part_few, stamping_none, stamping_more, stamping_end}
 use native.Mathlib.Omega.{arith}
-use borrow.Author.Rules.{rules}
 use Rattle.sorting.proofs.choose.mark.Goals as goal
 
 pub loop-j-init : goal.loop-j-init

@@ -2,9 +2,7 @@
 -- Assumes nothing.
 use Prim.Native.Nat.{◌-◌}
 use Rattle.lists.specs.Rules.{listed}
-use Rattle.sorting.proofs.Partitions.Stamps.{Stamping, part_few, stamping_none, stamping_more, stamping_end}
-use native.Mathlib.Omega.{arith}
-use borrow.Author.Rules.{rules}
+use Rattle.sorting.proofs.Partitions.Stamps.{Stamping}
 use Rattle.sorting.proofs.choose.mark.Given as goal
 
 abbrev pub invariant-loop-j : goal.invariant-loop-j

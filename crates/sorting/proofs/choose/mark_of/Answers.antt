@@ -3,7 +3,6 @@
 use mathlib.Core.Path.{sym, ◌∙◌}
 use Rattle.sorting.proofs.Partitions.Compared.{clash_told}
 use Rattle.sorting.proofs.Partitions.Stamps.{mark_old, mark_clash, mark_keep}
-use borrow.Author.Rules.{rules}
 use Rattle.sorting.proofs.choose.mark_of.Goals as goal
 
 -- taken already

@@ -1,8 +1,5 @@
 -- The answers that the check does not find alone.
-use Prim.Native.Nat.{◌≤◌, ◌-◌}
-use mathlib.Core.Path.{◌≡◌, sym, ◌∙◌}
-use lib.ListN.{length}
-use Rattle.sorting.specs.FirstFit.{parts}
+use mathlib.Core.Path.{sym, ◌∙◌}
 use Rattle.sorting.proofs.Partitions.Parts.{parts_none, parts_turn, parts_whole}
 use native.Mathlib.Omega.{arith}
 use borrow.Author.Rules.{rules}

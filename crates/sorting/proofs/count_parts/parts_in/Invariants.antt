@@ -1,12 +1,9 @@
 -- `sorting::count_parts::parts_in` meets its contract. At the loop's head b is how many partitions the first i numbers open; the measure is what is left of the run.
 -- Assumes nothing.
 use Prim.Native.Nat.{◌≤◌, ◌-◌}
-use mathlib.Core.Path.{◌≡◌, sym, ◌∙◌}
+use mathlib.Core.Path.{◌≡◌}
 use lib.ListN.{length}
 use Rattle.sorting.specs.FirstFit.{parts}
-use Rattle.sorting.proofs.Partitions.Parts.{parts_none, parts_turn, parts_whole}
-use native.Mathlib.Omega.{arith}
-use borrow.Author.Rules.{rules}
 use Rattle.sorting.proofs.count_parts.parts_in.Given as goal
 
 abbrev pub invariant-loop-i : goal.invariant-loop-i

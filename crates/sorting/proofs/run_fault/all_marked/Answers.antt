@@ -1,11 +1,6 @@
 -- The answers that the check does not find alone.
-use Prim.Native.Nat.{◌-◌}
-use mathlib.Core.Bool.{true, not}
 use native.Mathlib.Omega.{arith}
-use borrow.Author.Rules.{rules}
-use lib.ListN.{get_or}
-use lib.Dec.{eqb}
-use Rattle.lists.proofs.Search.{Answered, answered-none, answered-all}
+use Rattle.lists.proofs.Search.{answered-none, answered-all}
 use Rattle.sorting.proofs.Answering.RunTests.{mark_not, mark_more}
 use Rattle.sorting.proofs.run_fault.all_marked.Goals as goal
 

@@ -2,12 +2,9 @@
 -- Assumes nothing.
 use Prim.Native.Nat.{◌-◌}
 use mathlib.Core.Bool.{true, not}
-use native.Mathlib.Omega.{arith}
-use borrow.Author.Rules.{rules}
 use lib.ListN.{get_or}
 use lib.Dec.{eqb}
-use Rattle.lists.proofs.Search.{Answered, answered-none, answered-all}
-use Rattle.sorting.proofs.Answering.RunTests.{mark_not, mark_more}
+use Rattle.lists.proofs.Search.{Answered}
 use Rattle.sorting.proofs.run_fault.all_marked.Given as goal
 
 abbrev pub invariant-loop-q : goal.invariant-loop-q

@@ -2,10 +2,8 @@
 -- Assumes nothing.
 use Prim.Native.Nat.{◌-◌}
 use mathlib.Core.Bool.{true}
-use native.Mathlib.Omega.{arith}
-use borrow.Author.Rules.{rules}
 use Rattle.lists.specs.Rules.{listed}
-use Rattle.lists.proofs.Search.{Answered, answered-none, answered-all, turn_not, turn_more}
+use Rattle.lists.proofs.Search.{Answered}
 use Rattle.sorting.specs.Brought.{is_apart}
 use Rattle.sorting.proofs.run_fault.fits_in.Given as goal
 

@@ -1,6 +1,5 @@
 -- `sorting::run_fault::is_apart` meets its contract: rules of different partitions are not compared.
 -- Assumes nothing.
-use borrow.Author.Rules.{rules}
 use Rattle.lists.specs.Rules.{listed}
 use Rattle.sorting.proofs.Partitions.Compared.{clash_told}
 use Rattle.sorting.proofs.Answering.RunTests.{apart_other, apart_same}

@@ -1,7 +1,6 @@
 -- `sorting::run_fault::length_fault` meets its contract: the run's length is held against the number of rules.
 -- Assumes nothing.
 use mathlib.Core.Path.{◌∙◌}
-use borrow.Author.Rules.{rules}
 use Rattle.sorting.proofs.Answering.RunFaults.{long_not, long_fine}
 use Rattle.sorting.proofs.run_fault.length_fault.Goals as goal
 

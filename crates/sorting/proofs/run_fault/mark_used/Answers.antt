@@ -1,11 +1,6 @@
 -- The answers that the check does not find alone.
-use Prim.Native.Nat.{◌-◌, ◌≤◌}
 use mathlib.Core.Path.{refl}
 use native.Mathlib.Omega.{arith}
-use borrow.Author.Rules.{rules}
-use lib.ListN.{length}
-use Rattle.sorting.specs.FirstFit.{part_of}
-use Rattle.sorting.specs.Asked.{Seen}
 use Rattle.sorting.proofs.Partitions.Seen.{seen_more, seen_end}
 use Rattle.sorting.proofs.run_fault.mark_used.Goals as goal
 

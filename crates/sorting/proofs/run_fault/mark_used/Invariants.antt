@@ -1,13 +1,9 @@
 -- `sorting::run_fault::mark_used` meets its contract. At the loop's head the first i numbers are marked (`Seen`); the measure is what is left of the run.
 -- Assumes nothing.
 use Prim.Native.Nat.{◌-◌, ◌≤◌}
-use mathlib.Core.Path.{refl}
-use native.Mathlib.Omega.{arith}
-use borrow.Author.Rules.{rules}
 use lib.ListN.{length}
 use Rattle.sorting.specs.FirstFit.{part_of}
 use Rattle.sorting.specs.Asked.{Seen}
-use Rattle.sorting.proofs.Partitions.Seen.{seen_more, seen_end}
 use Rattle.sorting.proofs.run_fault.mark_used.Given as goal
 
 abbrev pub invariant-loop-i : goal.invariant-loop-i

@@ -1,12 +1,6 @@
 -- The answers that the check does not find alone.
-use Prim.Native.Nat.{◌-◌}
-use mathlib.Core.Bool.{true}
 use native.Mathlib.Omega.{arith}
-use borrow.Author.Rules.{rules}
-use lib.ListN.{length}
-use Rattle.lists.specs.Rules.{listed}
-use Rattle.lists.proofs.Search.{Answered, answered-none, answered-all, turn_not, turn_more}
-use Rattle.sorting.specs.FirstFit.{part_of, free}
+use Rattle.lists.proofs.Search.{answered-none, answered-all, turn_not, turn_more}
 use Rattle.sorting.proofs.Answering.RunTests.{clash-all}
 use mathlib.Core.Bool.{not}
 use mathlib.Core.Path.{ap}

@@ -2,13 +2,10 @@
 -- Assumes nothing.
 use Prim.Native.Nat.{◌-◌}
 use mathlib.Core.Bool.{true}
-use native.Mathlib.Omega.{arith}
-use borrow.Author.Rules.{rules}
 use lib.ListN.{length}
 use Rattle.lists.specs.Rules.{listed}
-use Rattle.lists.proofs.Search.{Answered, answered-none, answered-all, turn_not, turn_more}
+use Rattle.lists.proofs.Search.{Answered}
 use Rattle.sorting.specs.FirstFit.{part_of, free}
-use Rattle.sorting.proofs.Answering.RunTests.{clash-all}
 use Rattle.sorting.proofs.run_fault.no_clash.Given as goal
 
 abbrev pub invariant-loop-i : goal.invariant-loop-i

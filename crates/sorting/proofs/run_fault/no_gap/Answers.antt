@@ -1,6 +1,5 @@
 -- `sorting::run_fault::no_gap` meets its contract: each number below b has a mark.
 -- Assumes nothing.
-use borrow.Author.Rules.{rules}
 use Rattle.sorting.proofs.Partitions.Seen.{seen_none}
 use Rattle.sorting.proofs.Answering.RunTests.{parts_few, gap_told}
 use Rattle.sorting.proofs.run_fault.no_gap.Goals as goal

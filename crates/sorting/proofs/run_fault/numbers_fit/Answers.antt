@@ -1,12 +1,6 @@
 -- The answers that the check does not find alone.
-use Prim.Native.Nat.{◌-◌}
-use mathlib.Core.Bool.{true}
 use native.Mathlib.Omega.{arith}
-use borrow.Author.Rules.{rules}
-use lib.ListN.{length}
-use lib.Dec.{ltb}
-use Rattle.lists.proofs.Search.{Answered, answered-none}
-use Rattle.sorting.specs.FirstFit.{part_of}
+use Rattle.lists.proofs.Search.{answered-none}
 use Rattle.sorting.proofs.Answering.RunTests.{fit-not, fit_more, fit_all}
 use Rattle.sorting.proofs.run_fault.numbers_fit.Goals as goal
 

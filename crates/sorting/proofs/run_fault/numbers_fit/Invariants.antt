@@ -2,13 +2,10 @@
 -- Assumes nothing.
 use Prim.Native.Nat.{◌-◌}
 use mathlib.Core.Bool.{true}
-use native.Mathlib.Omega.{arith}
-use borrow.Author.Rules.{rules}
 use lib.ListN.{length}
 use lib.Dec.{ltb}
-use Rattle.lists.proofs.Search.{Answered, answered-none}
+use Rattle.lists.proofs.Search.{Answered}
 use Rattle.sorting.specs.FirstFit.{part_of}
-use Rattle.sorting.proofs.Answering.RunTests.{fit-not, fit_more, fit_all}
 use Rattle.sorting.proofs.run_fault.numbers_fit.Given as goal
 
 abbrev pub invariant-loop-i : goal.invariant-loop-i

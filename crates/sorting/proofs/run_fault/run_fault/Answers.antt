@@ -1,7 +1,6 @@
 -- `sorting::run_fault::run_fault` meets its contract: at each way out the tests that led there give the law of that refusal.
 -- Assumes nothing.
 use mathlib.Core.Path.{◌∙◌}
-use borrow.Author.Rules.{rules}
 use Rattle.sorting.proofs.Answering.RunFaults.{by_length, by-numbered, by_few, by_number, by_fitting, by_gap, by-clash, by-fine}
 use mathlib.Core.Bool.{not}
 use mathlib.Core.Path.{ap}

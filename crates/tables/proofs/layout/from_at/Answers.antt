@@ -1,6 +1,5 @@
 -- `tables::layout::from_at` meets its contract: it is the end of the smallest rule numbers, and what comes before in the rows.
 -- Assumes nothing.
-use borrow.Author.Rules.{rules}
 use native.Mathlib.Omega.{arith}
 use Rattle.tables.specs.Layout.{from_at}
 use Rattle.tables.proofs.Offsets.{least_few, row_few}

@@ -1,6 +1,5 @@
 -- `tables::layout::least_at` meets its contract: it is the last start and one, and how many partitions come before.
 -- Assumes nothing.
-use borrow.Author.Rules.{rules}
 use native.Mathlib.Omega.{arith}
 use Rattle.tables.specs.Layout.{least_at}
 use Rattle.tables.proofs.Offsets.{start_told_few}

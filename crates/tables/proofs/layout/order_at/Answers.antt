@@ -1,6 +1,5 @@
 -- `tables::layout::order_at` meets its contract: the sum of a number of 16 bits fits a word.
 -- Assumes nothing.
-use borrow.Author.Rules.{rules}
 use mathlib.Core.Path.{refl}
 use Rattle.tables.specs.Layout.{order_at}
 use Rattle.tables.proofs.layout.order_at.Goals as goal

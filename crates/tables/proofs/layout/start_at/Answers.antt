@@ -1,6 +1,5 @@
 -- `tables::layout::start_at` meets its contract: the sum of numbers of 16 bits fits a word.
 -- Assumes nothing.
-use borrow.Author.Rules.{rules}
 use native.Mathlib.Omega.{arith}
 use Rattle.tables.specs.Layout.{order_at, start_at}
 use Rattle.tables.proofs.layout.start_at.Goals as goal

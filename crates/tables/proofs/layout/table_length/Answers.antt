@@ -1,6 +1,5 @@
 -- `tables::layout::table_length` meets its contract: it is the end of the run-tos.
 -- Assumes nothing.
-use borrow.Author.Rules.{rules}
 use Rattle.tables.specs.Layout.{table_length}
 use Rattle.tables.proofs.layout.table_length.Goals as goal
 

@@ -1,6 +1,5 @@
 -- `tables::layout::to_at` meets its contract: it is the end of the run-froms, and what comes before in the rows.
 -- Assumes nothing.
-use borrow.Author.Rules.{rules}
 use native.Mathlib.Omega.{arith}
 use Rattle.tables.specs.Layout.{to_at}
 use Rattle.tables.proofs.Offsets.{from_few, row_few}

@@ -1,8 +1,6 @@
 -- `tables::opening::open_fault` meets its contract: at each way out the tests that led there give the law of that refusal.
 -- Assumes nothing.
-use borrow.Author.Rules.{rules}
 use mathlib.Core.Path.{sym, ◌∙◌}
-use borrow.Author.Tests.{not-true, not-false}
 use native.Mathlib.Omega.{arith}
 use Rattle.lists.specs.Rules.{listed}
 use Rattle.lists.proofs.Faults.{by-refused, by_shaped}

@@ -1,6 +1,5 @@
 -- `tables::opening::opens` meets its contract: at each way out the tests that led there give the law of that test.
 -- Assumes nothing.
-use borrow.Author.Rules.{rules}
 use Rattle.tables.proofs.Opened.{reads_n, reads_d, reads_b, reads_first, reads_last}
 use Rattle.tables.proofs.opening.opens.Goals as goal
 

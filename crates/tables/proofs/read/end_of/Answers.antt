@@ -1,6 +1,5 @@
 -- `tables::read::end_of` meets its contract: the next start stands one further.
 -- Assumes nothing.
-use borrow.Author.Rules.{rules}
 use mathlib.Core.Path.{ap, ◌∙◌}
 use Prim.Native.Nat.{◌+◌}
 use native.Mathlib.Omega.{arith}

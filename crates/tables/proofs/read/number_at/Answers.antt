@@ -1,6 +1,5 @@
 -- `tables::read::number_at` meets its contract: past the end there is nothing to read.
 -- Assumes nothing.
-use borrow.Author.Rules.{rules}
 use Rattle.tables.proofs.Readers.{past_end}
 use Rattle.tables.proofs.read.number_at.Goals as goal
 

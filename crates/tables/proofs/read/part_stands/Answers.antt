@@ -1,6 +1,5 @@
 -- `tables::read::part_stands` meets its contract: at each way out the tests that led there give the law of that test.
 -- Assumes nothing.
-use borrow.Author.Rules.{rules}
 use Rattle.tables.specs.Layout.{start_in}
 use Rattle.tables.proofs.Readers.{part_not, part_test}
 use Rattle.tables.proofs.read.part_stands.Goals as goal

@@ -1,6 +1,5 @@
 -- `tables::read::rule_at` meets its contract: it reads where the layout says.
 -- Assumes nothing.
-use borrow.Author.Rules.{rules}
 use Rattle.tables.proofs.Readers.{read_at}
 use Rattle.tables.proofs.read.rule_at.Goals as goal
 

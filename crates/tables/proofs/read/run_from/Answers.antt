@@ -1,6 +1,5 @@
 -- `tables::read::run_from` meets its contract: it reads where the layout says.
 -- Assumes nothing.
-use borrow.Author.Rules.{rules}
 use Rattle.tables.proofs.Readers.{read_at}
 use Rattle.tables.proofs.read.run_from.Goals as goal
 

@@ -1,8 +1,6 @@
 -- `tables::report::part_fault` meets its contract: at each way out the tests that led there give the law of that refusal.
 -- Assumes nothing.
-use borrow.Author.Rules.{rules}
 use mathlib.Core.Path.{sym, ◌∙◌}
-use borrow.Author.Tests.{not-true, not-false}
 use Rattle.tables.proofs.Reporting.{fault_starts, fault-least, fault-fine}
 use Rattle.tables.proofs.report.part_fault.Goals as goal
 

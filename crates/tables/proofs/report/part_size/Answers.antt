@@ -1,6 +1,5 @@
 -- `tables::report::part_size` meets its contract: the starts ascend.
 -- Assumes nothing.
-use borrow.Author.Rules.{rules}
 use Rattle.tables.specs.Layout.{start_in}
 use Rattle.tables.proofs.PartPlaces.{part_size, size_fits}
 use Rattle.tables.proofs.report.part_size.Goals as goal

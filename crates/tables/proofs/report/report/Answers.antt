@@ -1,7 +1,6 @@
 -- `tables::report::report` meets its contract: what the report's refusal is, and else the partition's size and its stored number.
 -- Assumes nothing.
 use native.Mathlib.Omega.{arith}
-use borrow.Author.Rules.{rules}
 use Rattle.lists.proofs.Faults.{by-refused}
 use Rattle.tables.specs.declared.report.Part.TheVariants.{Refused}
 use Rattle.tables.proofs.Reporting.{reported_told, reported_few, reported_within, report_by_answer}

@@ -1,7 +1,6 @@
 -- `tables::report::report_fault` meets its contract: at each way out the tests that led there give the law of that refusal.
 -- Assumes nothing.
 use native.Mathlib.Omega.{arith}
-use borrow.Author.Rules.{rules}
 use mathlib.Core.Path.{sym, ◌∙◌}
 use Rattle.lists.proofs.Faults.{by-refused}
 use Rattle.tables.specs.Report.{report_fault}

@@ -1,6 +1,5 @@
 -- `text::cell::with_byte` meets its contract: a byte below or above the digits is bad, and a digit is `with_digit`'s.
 -- Assumes nothing.
-use borrow.Author.Rules.{rules}
 use mathlib.Core.Path.{sym, ◌∙◌}
 use Rattle.text.proofs.Cells.{byte_low, byte_high, byte_digit}
 use Rattle.text.proofs.cell.with_byte.Goals as goal

@@ -1,6 +1,5 @@
 -- `text::cell::with_digit` meets its contract: at each way out the tests that led there give the law of that case.
 -- Assumes nothing.
-use borrow.Author.Rules.{rules}
 use mathlib.Core.Path.{sym}
 use Rattle.text.proofs.Cells.{digit_empty, digit_zero, digit_large, digit_more, digit_bad}
 use Rattle.text.proofs.cell.with_digit.Goals as goal

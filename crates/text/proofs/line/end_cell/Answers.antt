@@ -1,6 +1,5 @@
 -- `text::line::end_cell` meets its contract: the row ends its cell.
 -- Assumes nothing.
-use borrow.Author.Rules.{rules}
 use Rattle.text.proofs.Lines.{cell_ended_lem}
 use Rattle.text.proofs.line.end_cell.Goals as goal
 

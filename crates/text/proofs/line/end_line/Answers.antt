@@ -1,6 +1,5 @@
 -- `text::line::end_line` meets its contract: a CR that waits is a byte of the last line.
 -- Assumes nothing.
-use borrow.Author.Rules.{rules}
 use borrow.Author.Tests.{not-true, not-false}
 use Rattle.text.proofs.Lines.{last_plain, last_lone}
 use Rattle.text.proofs.line.end_line.Goals as goal

@@ -1,7 +1,6 @@
 -- `text::line::ends_line` meets its contract.
 -- Assumes nothing.
 use mathlib.Core.Path.{sym}
-use borrow.Author.Tests.{not-true, not-false}
 use Rattle.text.proofs.Files.{ends_none, ends_waited}
 use Rattle.text.proofs.line.ends_line.Goals as goal
 

@@ -1,6 +1,5 @@
 -- `text::line::last_line` meets its contract.
 -- Assumes nothing.
-use borrow.Author.Rules.{rules}
 use borrow.Author.Tests.{not-true, not-false}
 use Rattle.text.proofs.Lines.{last_nothing, last_something}
 use Rattle.text.proofs.line.last_line.Goals as goal

@@ -1,6 +1,5 @@
 -- `text::line::line_byte` meets its contract.
 -- Assumes nothing.
-use borrow.Author.Rules.{rules}
 use mathlib.Core.Path.{sym, ◌∙◌}
 use Rattle.text.proofs.Lines.{line_ends_cell, line_takes}
 use Rattle.text.proofs.line.line_byte.Goals as goal

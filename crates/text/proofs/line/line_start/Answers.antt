@@ -1,6 +1,5 @@
 -- `text::line::line_start` meets its contract.
 -- Assumes nothing.
-use borrow.Author.Rules.{rules}
 use Rattle.text.proofs.line.line_start.Goals as goal
 
 pub returns : goal.returns

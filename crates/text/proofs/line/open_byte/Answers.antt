@@ -1,6 +1,5 @@
 -- `text::line::open_byte` meets its contract: a CR that waited is a byte of the line.
 -- Assumes nothing.
-use borrow.Author.Rules.{rules}
 use mathlib.Core.Path.{sym, ◌∙◌}
 use borrow.Author.Tests.{not-true, not-false}
 use Rattle.text.proofs.Files.{open_plain, open_lone}

@@ -1,6 +1,5 @@
 -- `text::line::plain_byte` meets its contract.
 -- Assumes nothing.
-use borrow.Author.Rules.{rules}
 use mathlib.Core.Path.{sym}
 use Rattle.text.proofs.Files.{plain_cr, plain_byte}
 use Rattle.text.proofs.line.plain_byte.Goals as goal

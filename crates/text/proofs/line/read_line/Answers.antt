@@ -1,10 +1,7 @@
 -- The answers that the check does not find alone.
-use borrow.Author.Rules.{rules}
-use Prim.Native.Nat.{◌-◌}
 use mathlib.Core.Path.{sym, ◌∙◌}
 use native.Mathlib.Omega.{arith}
-use lib.ListN.{length}
-use Rattle.text.proofs.Lines.{Going, going_start, going_more, going_ends, going_all}
+use Rattle.text.proofs.Lines.{going_start, going_more, going_ends, going_all}
 use Rattle.text.proofs.line.read_line.Goals as goal
 
 pub loop-i-init : goal.loop-i-init

@@ -1,12 +1,9 @@
 -- `text::line::read_line` meets its contract. At the loop's head the first i bytes are read and have not ended the line (`Going`); the
 -- measure is what is left.
 -- Assumes nothing.
-use borrow.Author.Rules.{rules}
 use Prim.Native.Nat.{◌-◌}
-use mathlib.Core.Path.{sym, ◌∙◌}
-use native.Mathlib.Omega.{arith}
 use lib.ListN.{length}
-use Rattle.text.proofs.Lines.{Going, going_start, going_more, going_ends, going_all}
+use Rattle.text.proofs.Lines.{Going}
 use Rattle.text.proofs.line.read_line.Given as goal
 
 abbrev pub invariant-loop-i : goal.invariant-loop-i

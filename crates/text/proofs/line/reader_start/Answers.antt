@@ -1,6 +1,5 @@
 -- `text::line::reader_start` meets its contract.
 -- Assumes nothing.
-use borrow.Author.Rules.{rules}
 use Rattle.text.proofs.line.reader_start.Goals as goal
 
 pub returns : goal.returns

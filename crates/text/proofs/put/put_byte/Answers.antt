@@ -1,6 +1,5 @@
 -- `text::put::put_byte` meets its contract: where there is no place, nothing changes.
 -- Assumes nothing.
-use borrow.Author.Rules.{rules}
 use Rattle.text.proofs.Puts.{put_past}
 use Rattle.text.proofs.put.put_byte.Goals as goal
 

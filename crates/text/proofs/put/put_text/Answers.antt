@@ -1,10 +1,9 @@
 -- The answers that the check does not find alone.
 use borrow.Author.Rules.{rules}
-use Prim.Native.Nat.{◌≤◌, ◌-◌}
+use Prim.Native.Nat.{◌≤◌}
 use native.Mathlib.Omega.{arith}
-use lib.ListN.{length, take}
+use lib.ListN.{length}
 use lib.Seq.{take_all}
-use Rattle.text.specs.Puts.{Put}
 use Rattle.text.proofs.Puts.{put_no_byte, put_byte_more, put_long}
 use Rattle.text.proofs.put.put_text.Goals as goal
 

@@ -1,13 +1,9 @@
 -- `text::put::put_text` meets its contract. At the loop's head the first i bytes of the text are put; the measure is
 -- what is left of it.
 -- Assumes nothing.
-use borrow.Author.Rules.{rules}
 use Prim.Native.Nat.{◌≤◌, ◌-◌}
-use native.Mathlib.Omega.{arith}
 use lib.ListN.{length, take}
-use lib.Seq.{take_all}
 use Rattle.text.specs.Puts.{Put}
-use Rattle.text.proofs.Puts.{put_no_byte, put_byte_more, put_long}
 use Rattle.text.proofs.put.put_text.Given as goal
 
 abbrev pub invariant-loop-i : goal.invariant-loop-i

@@ -1,6 +1,5 @@
 -- `text::row::keep` meets its contract: a store past the end changes nothing.
 -- Assumes nothing.
-use borrow.Author.Rules.{rules}
 use mathlib.Core.Path.{sym}
 use lib.Seq.{set_out}
 use Rattle.text.proofs.row.keep.Goals as goal

@@ -1,6 +1,5 @@
 -- `text::row::one_more` meets its contract.
 -- Assumes nothing.
-use borrow.Author.Rules.{rules}
 use mathlib.Core.Path.{sym}
 use Rattle.text.proofs.Rows.{more_few, more_many}
 use Rattle.text.proofs.row.one_more.Goals as goal

@@ -1,6 +1,5 @@
 -- `text::row::row_byte` meets its contract: the present cell takes the byte.
 -- Assumes nothing.
-use borrow.Author.Rules.{rules}
 use Rattle.text.proofs.row.row_byte.Goals as goal
 
 pub returns : goal.returns

@@ -1,6 +1,5 @@
 -- `text::row::row_next` meets its contract: each arm is the law of its cell.
 -- Assumes nothing.
-use borrow.Author.Rules.{rules}
 use mathlib.Core.Path.{◌∙◌}
 use Rattle.text.proofs.Rows.{next_empty, next_number, next_bad, kept_empty, kept_number, kept_bad}
 use Rattle.text.proofs.row.row_next.Goals as goal

@@ -1,6 +1,5 @@
 -- `words::choice_words::call_choice` meets its contract: each arm is its word.
 -- Assumes nothing.
-use borrow.Author.Rules.{rules}
 use Rattle.words.proofs.choice_words.call_choice.Goals as goal
 
 pub returns-in-Choose : goal.returns-in-Choose

@@ -1,9 +1,6 @@
 -- `words::choice_words::choose_from` meets its contract.
 -- Assumes nothing.
-use borrow.Author.Rules.{rules}
 use native.Mathlib.Omega.{arith}
-use Rattle.words.specs.Limits.{choice_most}
-use Rattle.words.specs.Parts.{NarrowTo}
 use Rattle.words.proofs.Longest.{table_most_lem}
 use Rattle.words.proofs.Parts.{narrow_asked, last_is, last_told}
 use Rattle.phrases.proofs.Few.{few_more}

@@ -1,6 +1,5 @@
 -- `words::choice_words::layout_from` meets its contract.
 -- Assumes nothing.
-use borrow.Author.Rules.{rules}
 use mathlib.Core.Path.{sym, ◌∙◌}
 use native.Mathlib.Omega.{arith}
 use Rattle.words.proofs.Parts.{narrow_told}

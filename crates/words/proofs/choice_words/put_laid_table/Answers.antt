@@ -1,6 +1,5 @@
 -- `words::choice_words::put_laid_table` meets its contract: the table is the first part of its room, where its numbers are written.
 -- Assumes nothing.
-use borrow.Author.Rules.{rules}
 use mathlib.Core.Path.{sym}
 use native.Mathlib.Omega.{arith}
 use Rattle.words.proofs.Longest.{table_most_lem}

@@ -1,6 +1,5 @@
 -- `words::choice_words::put_layout` meets its contract: the run is the first part of its room, where its numbers are written.
 -- Assumes nothing.
-use borrow.Author.Rules.{rules}
 use mathlib.Core.Path.{sym}
 use Rattle.sorting.proofs.Writing.Room.{room_long}
 use Rattle.words.specs.Limits.{choice_most}

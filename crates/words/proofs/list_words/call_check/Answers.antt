@@ -1,9 +1,8 @@
 -- `words::list_words::call_check` meets its contract.
 -- Assumes nothing.
-use borrow.Author.Rules.{rules}
 use mathlib.Core.Path.{sym, ◌∙◌}
 use native.Mathlib.Omega.{arith}
-use Rattle.words.proofs.Parts.{ListTo, list_told}
+use Rattle.words.proofs.Parts.{list_told}
 use Rattle.words.proofs.list_words.call_check.Goals as goal
 
 -- no such line

@@ -1,9 +1,7 @@
 -- The answers that the check does not find alone.
 use borrow.Author.Rules.{rules}
-use Prim.Native.Nat.{ℕ, ◌≤◌, ◌<◌, ◌-◌}
 use native.Mathlib.Omega.{arith}
 use borrow.Author.Count.{below_more}
-use lib.ListN.{length, get_or}
 use Rattle.words.proofs.Narrowing.{narrow_all, narrow_not}
 use Rattle.words.proofs.part.all_narrow.Goals as goal
 

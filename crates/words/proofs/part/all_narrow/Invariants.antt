@@ -1,12 +1,8 @@
 -- `words::part::all_narrow` meets its contract. At the loop's head the first i numbers are of 16 bits; the measure is what is
 -- left of them.
 -- Assumes nothing.
-use borrow.Author.Rules.{rules}
 use Prim.Native.Nat.{ℕ, ◌≤◌, ◌<◌, ◌-◌}
-use native.Mathlib.Omega.{arith}
-use borrow.Author.Count.{below_more}
 use lib.ListN.{length, get_or}
-use Rattle.words.proofs.Narrowing.{narrow_all, narrow_not}
 use Rattle.words.proofs.part.all_narrow.Given as goal
 
 abbrev pub invariant-loop-i : goal.invariant-loop-i

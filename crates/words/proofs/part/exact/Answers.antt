@@ -1,6 +1,5 @@
 -- `words::part::exact` meets its contract: each way out is the law of its case.
 -- Assumes nothing.
-use borrow.Author.Rules.{rules}
 use native.Mathlib.Omega.{arith}
 use Rattle.words.proofs.Parts.{exact_not, exact_is}
 use Rattle.words.proofs.part.exact.Goals as goal

@@ -1,6 +1,5 @@
 -- `words::part::header_of` meets its contract: eight numbers, one by one, are all that stand there.
 -- Assumes nothing.
-use borrow.Author.Rules.{rules}
 use Rattle.ranges.specs.Numbers.{tab}
 use Rattle.words.proofs.Parts.{eight_is}
 use Rattle.words.proofs.part.header_of.Goals as goal

@@ -1,6 +1,5 @@
 -- `words::part::list_end` meets its contract.
 -- Assumes nothing.
-use borrow.Author.Rules.{rules}
 use mathlib.Core.Path.{ap, ◌∙◌}
 use Rattle.words.specs.Parts.{exactly, list_end}
 use Rattle.words.proofs.part.list_end.Goals as goal

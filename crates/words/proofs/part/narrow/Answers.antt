@@ -1,10 +1,7 @@
 -- The answers that the check does not find alone.
-use borrow.Author.Rules.{rules}
-use Prim.Native.Nat.{◌-◌}
 use mathlib.Core.Path.{sym, ◌∙◌}
 use native.Mathlib.Omega.{arith}
-use lib.ListN.{length}
-use Rattle.words.proofs.Narrowing.{narrow_at, Narrowed, narrowed_none, narrowed_more, narrowed_all}
+use Rattle.words.proofs.Narrowing.{narrow_at, narrowed_none, narrowed_more, narrowed_all}
 use Rattle.words.proofs.part.narrow.Goals as goal
 
 pub loop-i-init : goal.loop-i-init

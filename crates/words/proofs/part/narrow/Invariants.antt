@@ -1,12 +1,9 @@
 -- `words::part::narrow` meets its contract. At the loop's head the first i numbers are written; the measure is what is left
 -- of them.
 -- Assumes nothing.
-use borrow.Author.Rules.{rules}
 use Prim.Native.Nat.{◌-◌}
-use mathlib.Core.Path.{sym, ◌∙◌}
-use native.Mathlib.Omega.{arith}
 use lib.ListN.{length}
-use Rattle.words.proofs.Narrowing.{narrow_at, Narrowed, narrowed_none, narrowed_more, narrowed_all}
+use Rattle.words.proofs.Narrowing.{Narrowed}
 use Rattle.words.proofs.part.narrow.Given as goal
 
 abbrev pub invariant-loop-i : goal.invariant-loop-i

@@ -2,8 +2,6 @@
 -- Assumes nothing.
 use mathlib.Core.Path.{sym, ◌∙◌}
 use native.Mathlib.Omega.{arith}
-use borrow.Author.Rules.{rules}
-use Rattle.words.specs.Parts.{RunTo}
 use Rattle.words.proofs.Parts.{run_told, narrow_none, narrow_wide, narrow_is}
 use Rattle.words.proofs.part.narrow_end.Goals as goal
 

@@ -1,6 +1,5 @@
 -- `words::part::run_end` meets its contract: each way out is the law of its case.
 -- Assumes nothing.
-use borrow.Author.Rules.{rules}
 use native.Mathlib.Omega.{arith}
 use Rattle.words.proofs.Parts.{run_none, run_long, run_cut, run_is}
 use Rattle.words.proofs.part.run_end.Goals as goal

@@ -1,6 +1,5 @@
 -- `words::part::shape_in` meets its contract.
 -- Assumes nothing.
-use borrow.Author.Rules.{rules}
 use native.Mathlib.Omega.{arith}
 use Rattle.words.proofs.part.shape_in.Goals as goal
 

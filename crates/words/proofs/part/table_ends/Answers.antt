@@ -1,10 +1,9 @@
 -- `words::part::table_ends` meets its contract: each way out is the law of its case.
 -- Assumes nothing.
-use borrow.Author.Rules.{rules}
 use mathlib.Core.Path.{sym, ◌∙◌}
 use native.Mathlib.Omega.{arith}
 use Rattle.words.proofs.Longest.{table_most_lem, table_run}
-use Rattle.words.proofs.Parts.{TableAt, table_told, tables_none, tables_cut, tables_wide, tables_are}
+use Rattle.words.proofs.Parts.{table_told, tables_none, tables_cut, tables_wide, tables_are}
 use Rattle.words.proofs.part.table_ends.Goals as goal
 
 -- no list

@@ -1,6 +1,5 @@
 -- `words::prefix_words::call_p2r` meets its contract.
 -- Assumes nothing.
-use borrow.Author.Rules.{rules}
 use Rattle.words.specs.Words.{p2r_said}
 use Rattle.words.proofs.Words.{exact_bad, exact_call}
 use Rattle.words.proofs.prefix_words.call_p2r.Goals as goal

@@ -1,6 +1,5 @@
 -- `words::prefix_words::call_r2p` meets its contract: each test that fails is a bad line; the run is all past place 3.
 -- Assumes nothing.
-use borrow.Author.Rules.{rules}
 use native.Mathlib.Omega.{arith}
 use Rattle.words.proofs.Words.{r2p_short, r2p_long, r2p_cut, r2p_bad, r2p_made}
 use Rattle.words.proofs.prefix_words.call_r2p.Goals as goal

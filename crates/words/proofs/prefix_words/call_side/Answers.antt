@@ -1,6 +1,5 @@
 -- `words::prefix_words::call_side` meets its contract.
 -- Assumes nothing.
-use borrow.Author.Rules.{rules}
 use Rattle.words.specs.Words.{side_said}
 use Rattle.words.proofs.Words.{exact_bad, exact_call}
 use Rattle.words.proofs.prefix_words.call_side.Goals as goal

@@ -1,6 +1,5 @@
 -- `words::prefix_words::put_expanded` meets its contract: the count, the word, and the run as the library left it.
 -- Assumes nothing.
-use borrow.Author.Rules.{rules}
 use Rattle.text.specs.Texts.{bytes}
 use Rattle.words.proofs.Words.{counted_put}
 use Rattle.words.proofs.prefix_words.put_expanded.Goals as goal

@@ -1,9 +1,8 @@
 -- `words::table_words::call_table` meets its contract.
 -- Assumes nothing.
-use borrow.Author.Rules.{rules}
 use mathlib.Core.Path.{sym, ◌∙◌}
 use native.Mathlib.Omega.{arith}
-use Rattle.words.proofs.Parts.{TableTo, tables_told, tables_asked}
+use Rattle.words.proofs.Parts.{tables_told, tables_asked}
 use Rattle.phrases.proofs.Few.{few_more}
 use Rattle.words.proofs.table_words.call_table.Goals as goal
 

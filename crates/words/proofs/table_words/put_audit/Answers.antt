@@ -1,6 +1,5 @@
 -- `words::table_words::put_audit` meets its contract.
 -- Assumes nothing.
-use borrow.Author.Rules.{rules}
 use Rattle.words.proofs.table_words.put_audit.Goals as goal
 
 pub returns : goal.returns

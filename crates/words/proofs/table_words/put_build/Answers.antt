@@ -1,6 +1,5 @@
 -- `words::table_words::put_build` meets its contract: the count, the word, and the table as the library left it.
 -- Assumes nothing.
-use borrow.Author.Rules.{rules}
 use Rattle.text.specs.Texts.{bytes}
 use Rattle.words.proofs.Words.{counted_put}
 use Rattle.words.proofs.table_words.put_build.Goals as goal

@@ -1,6 +1,5 @@
 -- `words::table_words::put_report` meets its contract.
 -- Assumes nothing.
-use borrow.Author.Rules.{rules}
 use Rattle.words.proofs.table_words.put_report.Goals as goal
 
 pub returns : goal.returns

@@ -1,6 +1,5 @@
 -- `words::table_words::put_with` meets its contract: each arm is its word, with as many numbers after the table as it wants.
 -- Assumes nothing.
-use borrow.Author.Rules.{rules}
 use mathlib.Core.Path.{ap, ◌∙◌}
 use native.Mathlib.Omega.{arith}
 use Rattle.words.specs.Words.{following}
