@@ -13,3 +13,4 @@
 pub mod output;
 pub mod start;
 pub mod status;
+pub mod streams;
