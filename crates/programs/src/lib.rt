@@ -10,6 +10,7 @@
 //     2   the program was not called as it is to be
 #![tactic(auto)]
 
+pub mod bytes;
 pub mod output;
 pub mod start;
 pub mod status;
