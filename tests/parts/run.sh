@@ -48,8 +48,8 @@ status_of_gateway() {
     judge $? './run gateway ends with 1 where its headers can not be read'
     bench_folder
     timeout "$limit" "$root/run" gateway "$scratch/bench/rules.csv" "$scratch/bench/headers.csv" 2>/dev/null </dev/null | head -n 1 >/dev/null
-    [ "${PIPESTATUS[0]}" = 141 ]
-    judge $? './run gateway ends with 141 where its reader goes away'
+    [ "${PIPESTATUS[0]}" = 1 ]
+    judge $? './run gateway ends with 1 where its reader goes away'
 }
 
 status_of_calls() {
