@@ -28,6 +28,18 @@ built_sum() { # SUM FILE
     [ ! -f "$2" ] || echo "$1 $(sha256sum <"$2" | cut -d ' ' -f 1)"
 }
 
+# Keeps what was built of a crate that was proved, under the lock; what was changed meanwhile is proved by the next call.
+keep() { # CALLER NAME SUM MADE KEPT: the sum is of before it was proved
+    mkdir -p "$root/target/stamp" "${5%/*}" && cp "$4" "$5.$$" && mv "$5.$$" "$5" || { echo "$1: $4 can't be copied to $5" >&2; return 1; }
+    if [ "$3" = "$(sources_sum)" ]; then built_sum "$3" "$5" >"$root/target/stamp/$2"; else rm -f "$root/target/stamp/$2"; fi
+}
+
+# Keeps the programs that an `rt ci` which passed has just proved, built and run, under the lock: nothing is proved once more.
+keep_programs() { # CALLER SUM
+    local name
+    for name in "${programs[@]}"; do keep "$1" "$name" "$2" "$root/crates/$name/out/$name" "$root/target/bin/$name" || return 1; done
+}
+
 # Proves a crate and builds what people use of it, under the lock: target/bin/NAME of a program, target/staticlib/libNAME.a of a
 # static library. target/stamp/NAME keeps the checksums of what it was proved from and of what was built; while both are as they
 # were nothing is run and nothing said. Else standard error has the crates as they are proved, and where one is not, why. rt runs
@@ -67,12 +79,11 @@ prove() { # CALLER NAME
     trap - HUP INT TERM
     exec {out}<&-
     # the last line is rt's exit status, and before it is an empty one
-    status=${said[-1]-1}
+    status=1
+    [ ${#said[@]} = 0 ] || status=${said[-1]}
     if [ "$status" = 0 ]; then
-        cp "$made" "$kept.$$" && mv "$kept.$$" "$kept" || { echo "$caller: $made can't be copied to $kept" >&2; return 1; }
-        # what was changed meanwhile is proved by the next call
-        [ "$sum" != "$(sources_sum)" ] || built_sum "$sum" "$kept" >"$stamp"
-        return 0
+        keep "$caller" "$name" "$sum" "$made" "$kept"
+        return
     fi
     printf '%s\n' "${said[@]}" | head -n -2 | head -n 60 >&2
     echo "$caller: $name is not proved; 'rt ${words[0]}' in $root/crates/$name says all" >&2
