@@ -1,5 +1,5 @@
 # The proved code against that of the commit before, both in one program. Functions whose machine code is the same are not timed, and the
-# others are timed at four placements (bench/place.sh). Sourced by bench/run; uses here, out, machine, archive, before, say, die, need,
+# others are timed at four placements (bench/place.sh). Sourced by bench/run; uses here, out, archive, before, say, die, need,
 # proved, machine_named, code_named and load_named.
 # With BENCH_ALWAYS=1 in the environment what has the same code is timed too, and nothing is written: this tests the bench itself.
 
@@ -7,7 +7,7 @@
 # has is told and not timed.
 compared=(lookup build plain_scan check audit independence report range_to_prefixes)
 heading='## Against the commit before'
-how='copy target/staticlib/libinterface.a aside at the commit before, once `rt staticlib interface` has written it'
+how='copy target/staticlib/libinterface.a aside at the commit before, once `scripts/archive` has written it'
 
 # Says what is wrong with what was asked for, and ends.
 refuse() { say "$*"; exit 2; }
@@ -18,7 +18,6 @@ section_of() { awk -v heading="$heading" -v inside="$1" '/^## / { now = $0 == he
 # Stops where a file is not an archive that can be compared; keeps it, since the new one may be written over it.
 keep_before() { # FILE
     local name
-    [ "$machine" = x86_64 ] || refuse "--before needs x86-64, which the archives are compiled for; this is $machine"
     need binutils command -v objcopy || die 'objcopy, objdump, nm and ld are missing, and binutils can not be installed'
     [ -f "$1" ] && [ -r "$1" ] || refuse "$1 is not there or can not be read: $how"
     ar t "$1" >/dev/null 2>&1 || refuse "$1 is not an archive: $how"
@@ -37,7 +36,7 @@ code_of() { # ARCHIVE NAME: target/bench/NAME.o, NAME.code
 # Compares and times; writes target/bench/before.lines.
 against_before() { # FUNCTION..
     local timed=() name word
-    proved staticlib interface
+    proved interface
     [ -f "$archive" ] || refuse 'target/staticlib/libinterface.a is not built: leave --built out'
     code_of "$out/before.a" before
     code_of "$archive" new

@@ -1,21 +1,9 @@
-# What the scripts of this repository share: how a proved program runs on this machine, and Debian's packages. Sourced;
-# by itself it prints nothing and installs nothing.
+# What the scripts of this repository share of the machine: that proved programs run on it, and Debian's packages. Sourced; by
+# itself it prints nothing and installs nothing.
 
-# Prints the kit's folder of tools for this machine.
-kit_tools() {
-    local rt
-    rt=$(command -v rt) || return 1
-    printf '%s\n' "${RATTLE_HOME:-$(dirname "$(dirname "$(readlink -f "$rt")")")}/on/$(uname -m)/toolchain"
-}
-
-# Sets `runner`, the words that run a program for x86-64 as `rt` runs one: the kit's emulator, where it has one, and its
-# loader with its C library. The emulator takes settings from the environment, which are forgotten first.
-find_runner() {
-    local tools name
-    tools=$(kit_tools) || return 1
-    for name in "${!QEMU_@}"; do unset "$name"; done
-    runner=("$tools/lib/ld-linux-x86-64.so.2" --library-path "$tools/lib")
-    [ ! -x "$tools/bin/qemu-x86_64" ] || runner=("$tools/bin/qemu-x86_64" "${runner[@]}")
+# Says whether proved programs run here: they are programs for x86-64 Linux, as any other, and nothing runs them elsewhere.
+runs_proved() { # CALLER
+    [ "$(uname -sm)" = 'Linux x86_64' ] || { echo "$1: the proved programs and the library are for x86-64 Linux, and this is $(uname -sm)" >&2; return 1; }
 }
 
 # Runs a test, installing Debian's packages first where it fails; succeeds where the test does in the end.

@@ -48,8 +48,8 @@ status_of_gateway() {
     judge $? './run gateway ends with 1 where its headers can not be read'
     bench_folder
     timeout "$limit" "$root/run" gateway "$scratch/bench/rules.csv" "$scratch/bench/headers.csv" 2>/dev/null </dev/null | head -n 1 >/dev/null
-    [ "${PIPESTATUS[0]}" = 141 ]
-    judge $? './run gateway ends with 141 where its reader goes away'
+    [ "${PIPESTATUS[0]}" = 1 ]
+    judge $? './run gateway ends with 1 where its reader goes away'
 }
 
 status_of_calls() {
@@ -150,18 +150,19 @@ run_at_once() { # ROUNDS
     done
 }
 
-# Copies the repository, as far as ./run needs it, with what was proved.
+# Copies the repository, as far as ./run needs it, with the programs that were built, and without what rt keeps.
 copy_repository() { # FOLDER
     mkdir -p "$1/target"
-    cp -R "$root/run" "$root/scripts" "$root/crates.txt" "$root/crates" "$1/"
-    cp -R "$root"/target/{log,stamp,rlib,bin} "$1/target/"
+    tar -C "$root" --no-wildcards-match-slash --exclude 'crates/*/out' -cf - run scripts crates.txt crates | tar -C "$1" -xf -
+    cp -R "$root"/target/{stamp,bin} "$1/target/"
 }
 
-# A repository that can't be written says so, also where only what was proved can't. Root may write everywhere, so root tries
-# this as nobody, if it can.
+# A repository that can't be written, where something has to be proved, says so. Root may write everywhere, so root tries this
+# as nobody, if it can.
 run_unwritable() {
     local drop=() copy=$scratch/unwritable
     copy_repository "$copy"
+    rm -f "$copy/target/stamp/gateway"
     chmod 755 "$scratch"
     chmod -R a+rX,go-w "$copy"
     if [ "$(id -u)" = 0 ]; then drop=(setpriv --reuid=65534 --regid=65534 --clear-groups); else chmod -R a-w "$copy"; fi
@@ -180,7 +181,7 @@ run_unwritable() {
 run_unproved() {
     local copy=$scratch/unproved
     copy_repository "$copy"
-    sed -i 's/^fn main() {$/fn main() { unknown();/' "$copy/crates/gateway/src/main.rt"
+    sed -i 's/^fn main(.*) {$/& unknown();/' "$copy/crates/gateway/src/main.rt"
     "$copy/run" gateway >"$scratch/got" 2>"$scratch/said" </dev/null
     [ $? = 1 ] && [ ! -s "$scratch/got" ] && head -n 3 "$scratch/said" | grep -q 'main.rt.*error.*unknown'
     judge $? './run says why a program is not proved, and does not run it'

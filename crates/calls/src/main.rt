@@ -20,25 +20,27 @@ mod reply;
 mod serve;
 mod word;
 
-use libc::STDERR_FILENO;
-use programs::output::write_text;
+use programs::output::{say_bytes, write_text};
 use programs::start::{Start, is_own, started};
 use programs::status::{Ended, ended_by, tell_status};
+use programs::streams::Streams;
 use serve::serve_all;
+use std::env::Env;
 use words::limits::{LINE_ROOM, NAME_ROOM, OUT_ROOM};
 
 // Lends the runs that the work needs, and says whether all was read and answered.
-fn run() -> bool {
-    let mut bytes = io::large_buffer();
+fn run(streams: Streams) -> bool {
+    let mut bytes = [0u8; 65536];
     let mut name = [0u8; NAME_ROOM];
     let mut numbers = [0u32; LINE_ROOM];
     let mut out = [0u8; OUT_ROOM];
-    serve_all(&mut bytes, &mut name, &mut numbers, &mut out)
+    serve_all(streams, &mut bytes, &mut name, &mut numbers, &mut out)
 }
 
 // Prints the words, and says whether that went well.
-fn say_words() -> bool {
+fn say_words(streams: Streams) -> bool {
     write_text(
+        streams,
         b"calls: write",
         b"\
 usage: calls\n\
@@ -77,25 +79,30 @@ written, 2 for wrong use.\n",
 }
 
 // Does what the own words ask for.
-fn run_words(start: Start) -> Ended {
+fn run_words(env: &impl Env, streams: Streams, start: Start) -> Ended {
     let asked = start.asked;
     let words = start.words;
     if words == 0 {
-        return ended_by(run());
+        return ended_by(run(streams));
     }
     if words == 1 {
-        if is_own(asked, 0, b"--help") {
-            return ended_by(say_words());
+        if is_own(env, asked, 0, b"--help") {
+            return ended_by(say_words(streams));
         }
     }
-    io::write_all(
-        STDERR_FILENO,
+    say_bytes(
+        streams,
         b"usage: calls | calls --help   (lines are read from standard input)\n",
     );
     Ended::Misused
 }
 
-fn main() {
-    let start = started();
-    tell_status(start.asked, run_words(start));
+fn main(rt: HostRuntime) {
+    let streams = Streams {
+        input: rt.stdin(),
+        output: rt.stdout(),
+        error: rt.stderr(),
+    };
+    let start = started(&rt);
+    tell_status(&rt, start.asked, run_words(&rt, streams, start));
 }

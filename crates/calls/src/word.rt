@@ -3,6 +3,7 @@ ghost use Rattle.std.specs.Prelude.{◌≡◌};
 ghost use Rattle.calls.specs.Names.{prefix_word, choice_word, table_word, word_of, has_d, flags_fit};
 
 use hearing::flags::Flags;
+use programs::bytes::same;
 use words::choice_words::ChoiceWord;
 use words::table_words::TableWord;
 
@@ -24,13 +25,13 @@ pub enum Word {
 pub fn word_of(name: &[u8]) -> Word
     ensures { result ≡ word_of name.now }
 {
-    if check::same(name, b"check") {
+    if same(name, b"check") {
         return Word::Check;
     }
-    if check::same(name, b"scan") {
+    if same(name, b"scan") {
         return Word::Scan;
     }
-    if check::same(name, b"independent") {
+    if same(name, b"independent") {
         return Word::Independent;
     }
     table_word(name)
@@ -40,16 +41,16 @@ pub fn word_of(name: &[u8]) -> Word
 fn table_word(name: &[u8]) -> Word
     ensures { result ≡ table_word name.now }
 {
-    if check::same(name, b"build") {
+    if same(name, b"build") {
         return Word::Table(TableWord::Build);
     }
-    if check::same(name, b"lookup") {
+    if same(name, b"lookup") {
         return Word::Table(TableWord::Lookup);
     }
-    if check::same(name, b"audit") {
+    if same(name, b"audit") {
         return Word::Table(TableWord::Audit);
     }
-    if check::same(name, b"report") {
+    if same(name, b"report") {
         return Word::Table(TableWord::Report);
     }
     choice_word(name)
@@ -59,10 +60,10 @@ fn table_word(name: &[u8]) -> Word
 fn choice_word(name: &[u8]) -> Word
     ensures { result ≡ choice_word name.now }
 {
-    if check::same(name, b"choose") {
+    if same(name, b"choose") {
         return Word::Choice(ChoiceWord::Choose);
     }
-    if check::same(name, b"layout") {
+    if same(name, b"layout") {
         return Word::Choice(ChoiceWord::Layout);
     }
     prefix_word(name)
@@ -72,13 +73,13 @@ fn choice_word(name: &[u8]) -> Word
 fn prefix_word(name: &[u8]) -> Word
     ensures { result ≡ prefix_word name.now }
 {
-    if check::same(name, b"side") {
+    if same(name, b"side") {
         return Word::Side;
     }
-    if check::same(name, b"p2r") {
+    if same(name, b"p2r") {
         return Word::P2r;
     }
-    if check::same(name, b"r2p") {
+    if same(name, b"r2p") {
         return Word::R2p;
     }
     Word::Unknown

@@ -19,7 +19,7 @@ use Rattle.ranges.proofs.Numbers.{true-not-false}
 use Rattle.lists.specs.Rules.{Rules, listed, shape_of}
 use Rattle.lists.specs.declared.shape.Shape.{Shape}
 use Rattle.text.specs.Cells.{fed}
-use Rattle.text.specs.Files.{InFile, in_file, finish, last_line}
+use Rattle.text.specs.Files.{InFile, in_file}
 use Rattle.text.specs.Judging.{judged, Over, over, over_byte, over_close, over_begun}
 use Rattle.text.proofs.Feeding.{rest_is, fed_append, fed_on}
 use Rattle.text.proofs.Files.{map_in_file, finish_map}

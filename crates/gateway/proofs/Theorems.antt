@@ -23,7 +23,7 @@ use native.Mathlib.Omega.{arith}
 use borrow.Author.Tests.{eq-eqb, ne_eqb, eqb-true, eqb-false}
 use lib.Dec.{eqb}
 use lib.ListN.{length}
-use Rattle.ranges.specs.Numbers.{pick, ◌and◌}
+use Rattle.ranges.specs.Numbers.{pick}
 use Rattle.lists.specs.Limits.{most_fields, most_numbers}
 use Rattle.lists.specs.Rules.{Rules, fields_of}
 use Rattle.lists.specs.Faults.{list_fault}
@@ -50,7 +50,6 @@ use Rattle.answers.specs.Said.{head_said, refused_said, looked_said}
 use Rattle.answers.specs.HeaderLines.{header_of, line_said, lines_said, refused_in, first_in, why_in}
 use Rattle.gateway.specs.HeaderBytes.{no_headers, headers_in_file}
 use Rattle.answers.specs.Counts.{headers_so_far, most_count}
-use Rattle.answers.specs.Opened.{opened_said}
 use Rattle.gateway.specs.Serving.{RulesFrom, HeadersFrom}
 use Rattle.gateway.specs.Program.{answers_said, program_of, pieces_said, served_by, served}
 use Rattle.answers.specs.declared.count.HeadersSoFar.{HeadersSoFar}

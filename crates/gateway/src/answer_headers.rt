@@ -6,12 +6,14 @@ ghost use Rattle.rulesfile.specs.Tabled.{list_read, room_read};
 ghost use Rattle.gateway.specs.Serving.{TurnTook, HeadersOver, HeadersLost, HeadersEnded, HeadersReadFrom};
 
 use crate::headers::{HeadersFile, headers_end, headers_piece, headers_start};
-use crate::input::{Got, open_input, read_some};
+use crate::input::{Got, Source, open_input, read_some};
 use crate::output::write_out;
 use answers::count::HeadersSoFar;
 use lists::shape::Shape;
+use programs::streams::Streams;
 use rulesfile::file::RulesSoFar;
 use rulesfile::table::{rules_length, rules_room, rules_shape};
+use std::fs::{File, Files};
 
 // What is left after a piece: the headers, and whether what they printed was written.
 #[derive(Clone, Copy)]
@@ -22,6 +24,7 @@ pub struct Turn {
 
 // Answers the lines that a piece ends, and writes the answers.
 fn answer_piece(
+    streams: Streams,
     file: HeadersFile,
     bytes: &[u8],
     shape: Shape,
@@ -39,7 +42,7 @@ fn answer_piece(
         let next = headers_piece(present, &bytes[from..], shape, list, table, header, out);
         present = next.file;
         from += next.used;
-        if !write_out(out, next.at) {
+        if !write_out(streams, out, next.at) {
             return Turn {
                 file: present,
                 going: false,
@@ -73,6 +76,7 @@ fn stopped_at(file: HeadersFile) -> HeadersRead
 
 // Ends the file: answers a last line that no CRLF ends, and writes the answer.
 fn end_answers(
+    streams: Streams,
     file: HeadersFile,
     shape: Shape,
     list: &[u32],
@@ -85,7 +89,7 @@ fn end_answers(
 {
     let last = headers_end(file, shape, list, table, header, out);
     let headers = last.headers;
-    if write_out(out, last.at) {
+    if write_out(streams, out, last.at) {
         return HeadersRead::Are(headers);
     }
     HeadersRead::Failed
@@ -94,6 +98,7 @@ fn end_answers(
 // Ends the file, after a read that brought no bytes: a last line that no CRLF ends is answered, but not where the file
 // can't be read further or is a folder.
 fn end_headers(
+    streams: Streams,
     got: Got,
     file: HeadersFile,
     shape: Shape,
@@ -106,8 +111,8 @@ fn end_headers(
     ensures { HeadersEnded got (listed shape list.now) table.now file header.old result }
 {
     match got {
-        Got::Bytes(n) => end_answers(file, shape, list, table, header, out),
-        Got::End => end_answers(file, shape, list, table, header, out),
+        Got::Bytes(n) => end_answers(streams, file, shape, list, table, header, out),
+        Got::End => end_answers(streams, file, shape, list, table, header, out),
         Got::Folder => stopped_at(file),
         Got::Failed => stopped_at(file),
     }
@@ -115,7 +120,8 @@ fn end_headers(
 
 // Reads the headers file to its end and answers its lines; what was answered is written before the next read.
 fn headers_all(
-    fd: i32,
+    streams: Streams,
+    source: &mut Source,
     path: &[u8],
     shape: Shape,
     list: &[u32],
@@ -131,11 +137,11 @@ fn headers_all(
     let mut file = start;
     let mut turns = u64::MAX;
     while turns > 0 {
-        let got = read_some(fd, path, bytes);
+        let got = read_some(streams, source, path, bytes);
         let Got::Bytes(n) = got else {
-            return end_headers(got, file, shape, list, table, header, out);
+            return end_headers(streams, got, file, shape, list, table, header, out);
         };
-        let turn = answer_piece(file, &bytes[..n], shape, list, table, header, out);
+        let turn = answer_piece(streams, file, &bytes[..n], shape, list, table, header, out);
         if !turn.going {
             return HeadersRead::Failed;
         }
@@ -148,6 +154,8 @@ fn headers_all(
 // Answers each line of the headers file by the rules' list and table, at the front of what is lent; a file that can't be
 // opened counts as empty.
 pub(crate) fn answer_headers(
+    files: &impl Files<File = File>,
+    streams: Streams,
     rules: RulesSoFar,
     path: &[u8],
     bytes: &mut [u8],
@@ -160,14 +168,21 @@ pub(crate) fn answer_headers(
     ensures { HeadersReadFrom (list_read rules list.now) (take (room_read rules table.now) table.now)
         header.old result }
 {
-    let fd = open_input(path);
-    if fd < 0 {
+    let Some(mut source) = open_input(files, streams, path) else {
         return stopped_at(headers_start());
-    }
+    };
     let shape = rules_shape(rules);
     let k = rules_length(rules, list);
     let t = rules_room(rules, table);
-    let read = headers_all(fd, path, shape, &list[..k], &table[..t], bytes, header, out);
-    libc::close(fd);
-    read
+    headers_all(
+        streams,
+        &mut source,
+        path,
+        shape,
+        &list[..k],
+        &table[..t],
+        bytes,
+        header,
+        out,
+    )
 }

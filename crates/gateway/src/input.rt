@@ -1,9 +1,24 @@
 // A file in: it is opened, and a piece of it is read into a run of bytes. What goes wrong is said on standard error.
-ghost use Rattle.std.specs.Prelude.{true, ◌≡◌, pos, length};
+ghost use Rattle.std.specs.Prelude.{true, ◌≡◌, Some, length};
+ghost use Rattle.std.specs.Io.{ReadsAtMost};
 ghost use Rattle.gateway.specs.Serving.{is_stdin, Readied};
+ghost use Rattle.gateway.specs.declared.input.Source.TheVariants.{Standard};
 
 use flaws::say::put_named;
-use libc::STDIN_FILENO;
+use programs::bytes::same;
+use programs::output::say_error;
+use programs::streams::Streams;
+use std::fs::{File, Files};
+use std::io::{Error, ErrorKind, Read, Result};
+use std::str::from_utf8;
+
+// What a file is read from.
+#[derive(Drop)]
+pub enum Source {
+    // Standard input.
+    Standard,
+    Opened(File),
+}
 
 // What a read brought.
 #[derive(Clone, Copy)]
@@ -15,58 +30,86 @@ pub enum Got {
     Failed,
 }
 
-// Says on standard error what the last call to the system found wrong with a file.
-pub(crate) fn say_failed(path: &[u8]) {
+// The system's number of an error: what should be text is none.
+const NO_TEXT: i32 = 84;
+
+// Says on standard error what the system found wrong with a file.
+pub(crate) fn say_failed(streams: Streams, path: &[u8], error: Error) {
     let mut text = [0u8; 8192];
     let n = put_named(b"gateway", path, &mut text, 0);
-    say_first(&text, n);
+    say_first(streams, &text, n, error);
 }
 
 // Says it of the first bytes of a run, as many as stand before a place.
-fn say_first(text: &[u8], n: usize) {
+fn say_first(streams: Streams, text: &[u8], n: usize, error: Error) {
     if text.len() < n {
         return;
     }
-    os::fail(&text[..n]);
+    say_error(streams, &text[..n], error);
 }
 
 // Says whether a name is that of standard input.
 pub(crate) fn is_stdin(path: &[u8]) -> bool
     ensures { result ≡ is_stdin path.now }
 {
-    check::same(path, b"-")
+    same(path, b"-")
 }
 
-// Opens a file to read, and answers its descriptor, or a number below 0.
-pub(crate) fn open_input(path: &[u8]) -> i32
-    ensures { is_stdin path.now ≡ true → result ≡ pos 0 }
+// Opens a file to read, by its name; the library opens a file only where that is text in UTF-8.
+fn open_file(files: &impl Files<File = File>, path: &[u8]) -> Result<File> {
+    match from_utf8(path) {
+        Ok(name) => File::open(files, name),
+        Err(_) => Err(Error::from_raw_os_error(NO_TEXT)),
+    }
+}
+
+// Opens a file to read, and answers what it is read from; where it can't be opened, says so.
+pub(crate) fn open_input(
+    files: &impl Files<File = File>,
+    streams: Streams,
+    path: &[u8],
+) -> Option<Source>
+    ensures { is_stdin path.now ≡ true → result ≡ Some Standard }
 {
     if is_stdin(path) {
-        return STDIN_FILENO;
+        return Some(Source::Standard);
     }
-    let fd = os::open_read(path);
-    if fd < 0 {
-        say_failed(path);
+    match open_file(files, path) {
+        Ok(file) => Some(Source::Opened(file)),
+        Err(error) => {
+            say_failed(streams, path, error);
+            None
+        }
     }
-    fd
+}
+
+// Reads once from standard input or a file.
+fn read_source(streams: Streams, source: &mut Source, bytes: &mut [u8]) -> Result<usize>
+    ensures { ReadsAtMost result bytes.new }
+{
+    match source {
+        Source::Standard => {
+            let mut input = streams.input;
+            input.read(bytes)
+        }
+        Source::Opened(file) => file.read(bytes),
+    }
 }
 
 // Reads a piece of a file: how many bytes came, or its end, or that it is a folder, or that it can't be read, and the
 // last two are said on standard error.
-pub(crate) fn read_some(fd: i32, path: &[u8], bytes: &mut [u8]) -> Got
+pub(crate) fn read_some(streams: Streams, source: &mut Source, path: &[u8], bytes: &mut [u8]) -> Got
     ensures { Readied result (length bytes.new) }
 {
-    let got = libc::read(fd, bytes);
-    if got < 0 {
-        let error = os::errno();
-        say_failed(path);
-        if error == libc::EISDIR {
-            return Got::Folder;
+    match read_source(streams, source, bytes) {
+        Ok(0) => Got::End,
+        Ok(n) => Got::Bytes(n),
+        Err(error) => {
+            say_failed(streams, path, error);
+            if error.kind() == ErrorKind::IsADirectory {
+                return Got::Folder;
+            }
+            Got::Failed
         }
-        return Got::Failed;
     }
-    if got == 0 {
-        return Got::End;
-    }
-    Got::Bytes(io::count(got, bytes))
 }

@@ -33,23 +33,33 @@ ghost use Rattle.ranges.specs.Numbers.{◌and◌};
 ghost use Rattle.gateway.specs.Serving.{is_stdin};
 
 use input::is_stdin;
-use libc::STDERR_FILENO;
 use lists::shape::MOST_NUMBERS;
-use programs::output::write_text;
+use programs::output::{say_bytes, say_error, write_text};
 use programs::start::{Start, is_own, own_word, started};
 use programs::status::{Ended, ended_by, tell_status};
+use programs::streams::Streams;
 use serve::serve_files;
+use std::env::Env;
+use std::fs::{File, Files};
+use std::io::Error;
 use tables::layout::MOST_TABLE;
 
 // Lends the runs that the work needs, room for the longest list and for the longest table, and says whether the job was
 // done.
-fn run(rules_path: &[u8], headers_path: &[u8]) -> bool {
-    let mut bytes = io::large_buffer();
+fn run(
+    files: &impl Files<File = File>,
+    streams: Streams,
+    rules_path: &[u8],
+    headers_path: &[u8],
+) -> bool {
+    let mut bytes = [0u8; 65536];
     let mut list = [0u32; MOST_NUMBERS];
     let mut table = [0u16; MOST_TABLE];
     let mut header = [0u32; 8];
-    let mut out = io::large_buffer();
+    let mut out = [0u8; 65536];
     serve_files(
+        files,
+        streams,
         rules_path,
         headers_path,
         &mut bytes,
@@ -61,27 +71,31 @@ fn run(rules_path: &[u8], headers_path: &[u8]) -> bool {
 }
 
 // Does the work on the two files that the own words name.
-fn run_named(asked: bool) -> Ended {
-    let mut rules_path = io::buffer();
-    let r = own_word(asked, 0, &mut rules_path);
-    if os::errno() != 0 {
-        os::fail(b"gateway: first argument");
-        return Ended::Misused;
-    }
-    let mut headers_path = io::buffer();
-    let h = own_word(asked, 1, &mut headers_path);
-    if os::errno() != 0 {
-        os::fail(b"gateway: second argument");
-        return Ended::Misused;
-    }
+fn run_named(rt: &(impl Env + Files<File = File>), streams: Streams, asked: bool) -> Ended {
+    let mut rules_path = [0u8; 4096];
+    let r = match own_word(rt, asked, 0, &mut rules_path) {
+        Ok(n) => n,
+        Err(error) => return misnamed(streams, b"gateway: first argument", error),
+    };
+    let mut headers_path = [0u8; 4096];
+    let h = match own_word(rt, asked, 1, &mut headers_path) {
+        Ok(n) => n,
+        Err(error) => return misnamed(streams, b"gateway: second argument", error),
+    };
     if names_twice(&rules_path[..r], &headers_path[..h]) {
-        io::write_all(
-            STDERR_FILENO,
+        say_bytes(
+            streams,
             b"gateway: standard input can be named once, for the rules or for the headers\n",
         );
         return Ended::Misused;
     }
-    ended_by(run(&rules_path[..r], &headers_path[..h]))
+    ended_by(run(rt, streams, &rules_path[..r], &headers_path[..h]))
+}
+
+// Says of an own word that it can't be had.
+fn misnamed(streams: Streams, what: &[u8], error: Error) -> Ended {
+    say_error(streams, what, error);
+    Ended::Misused
 }
 
 // Says whether two names are both that of standard input.
@@ -95,18 +109,19 @@ fn names_twice(one: &[u8], other: &[u8]) -> bool
 }
 
 // Does what the own words ask for.
-fn run_words(start: Start) -> Ended {
+fn run_words(rt: &(impl Env + Files<File = File>), streams: Streams, start: Start) -> Ended {
     let asked = start.asked;
     let words = start.words;
     if words == 0 {
-        return ended_by(run(b"rules.csv", b"headers.csv"));
+        return ended_by(run(rt, streams, b"rules.csv", b"headers.csv"));
     }
     if words == 2 {
-        return run_named(asked);
+        return run_named(rt, streams, asked);
     }
     if words == 1 {
-        if is_own(asked, 0, b"--help") {
+        if is_own(rt, asked, 0, b"--help") {
             return ended_by(write_text(
+                streams,
                 b"gateway: write",
                 b"\
 usage: gateway [RULES HEADERS]\n\
@@ -118,14 +133,19 @@ something can't be read or written, 2 for wrong use.\n",
             ));
         }
     }
-    io::write_all(
-        STDERR_FILENO,
+    say_bytes(
+        streams,
         b"usage: gateway [RULES HEADERS] | gateway --help\n",
     );
     Ended::Misused
 }
 
-fn main() {
-    let start = started();
-    tell_status(start.asked, run_words(start));
+fn main(rt: HostRuntime) {
+    let streams = Streams {
+        input: rt.stdin(),
+        output: rt.stdout(),
+        error: rt.stderr(),
+    };
+    let start = started(&rt);
+    tell_status(&rt, start.asked, run_words(&rt, streams, start));
 }

@@ -1,9 +1,11 @@
 // The rules file, read piece by piece to its end or to its first flaw: read, hand on.
 ghost use Rattle.gateway.specs.Serving.{RulesEnded, RulesReadFrom};
 
-use crate::input::{Got, open_input, read_some};
+use crate::input::{Got, Source, open_input, read_some};
 use flaws::flaw::flaw_number;
+use programs::streams::Streams;
 use rulesfile::file::{RulesFile, RulesSoFar, rules_end, rules_piece, rules_start};
+use std::fs::{File, Files};
 
 // What reading the rules has come to.
 #[derive(Clone, Copy)]
@@ -29,14 +31,20 @@ fn end_rules(got: Got, file: RulesFile, list: &mut [u32]) -> RulesRead
 
 // Reads the rules file to its end, or to its first flaw. A proved loop has to end, and nothing says that a file does: so
 // it counts its turns down, from a number that no run uses up.
-fn rules_all(fd: i32, path: &[u8], bytes: &mut [u8], list: &mut [u32]) -> RulesRead
+fn rules_all(
+    streams: Streams,
+    source: &mut Source,
+    path: &[u8],
+    bytes: &mut [u8],
+    list: &mut [u32],
+) -> RulesRead
     ensures { RulesReadFrom list.old result list.new }
 {
     let start = rules_start();
     let mut file = start;
     let mut turns = u64::MAX;
     while turns > 0 {
-        let got = read_some(fd, path, bytes);
+        let got = read_some(streams, source, path, bytes);
         let Got::Bytes(n) = got else {
             return end_rules(got, file, list);
         };
@@ -52,14 +60,17 @@ fn rules_all(fd: i32, path: &[u8], bytes: &mut [u8], list: &mut [u32]) -> RulesR
 }
 
 // Reads the rules; a file that can't be opened counts as empty.
-pub(crate) fn read_rules(path: &[u8], bytes: &mut [u8], list: &mut [u32]) -> RulesRead
+pub(crate) fn read_rules(
+    files: &impl Files<File = File>,
+    streams: Streams,
+    path: &[u8],
+    bytes: &mut [u8],
+    list: &mut [u32],
+) -> RulesRead
     ensures { RulesReadFrom list.old result list.new }
 {
-    let fd = open_input(path);
-    if fd < 0 {
+    let Some(mut source) = open_input(files, streams, path) else {
         return RulesRead::Are(rules_end(rules_start(), list), true);
-    }
-    let read = rules_all(fd, path, bytes, list);
-    libc::close(fd);
-    read
+    };
+    rules_all(streams, &mut source, path, bytes, list)
 }

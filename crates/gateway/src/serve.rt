@@ -13,27 +13,31 @@ use answers::open::open_rules;
 use flaws::flaw::{Flaw, flaw_number};
 use flaws::say::put_complaint;
 use programs::output::write_error;
+use programs::streams::Streams;
 use rulesfile::file::RulesSoFar;
 use rulesfile::table::rules_shape;
+use std::fs::{File, Files};
 
 // Says on standard error what is wrong with the rules.
-fn say_flaw(flaw: Flaw, path: &[u8], out: &mut [u8]) {
+fn say_flaw(streams: Streams, flaw: Flaw, path: &[u8], out: &mut [u8]) {
     let at = put_complaint(flaw, b"gateway", path, out);
-    write_error(out, at);
+    write_error(streams, out, at);
 }
 
 // Says on standard error which header lines were refused, where any was, for rules of d fields.
-fn say_refused(headers: HeadersSoFar, d: usize, path: &[u8], out: &mut [u8]) {
+fn say_refused(streams: Streams, headers: HeadersSoFar, d: usize, path: &[u8], out: &mut [u8]) {
     if headers.refused == 0 {
         return;
     }
     let at = put_headers_flaws(headers, d, path, out);
-    write_error(out, at);
+    write_error(streams, out, at);
 }
 
 // Answers the headers of rules whose table stands, says on standard error which of them were refused, and answers whether
 // all were read and answered.
 fn serve_headers(
+    files: &impl Files<File = File>,
+    streams: Streams,
     rules: RulesSoFar,
     path: &[u8],
     bytes: &mut [u8],
@@ -45,14 +49,14 @@ fn serve_headers(
     requires { line_most ≤ length out.old }
 {
     let shape = rules_shape(rules);
-    let read = answer_headers(rules, path, bytes, list, table, header, out);
+    let read = answer_headers(files, streams, rules, path, bytes, list, table, header, out);
     match read {
         HeadersRead::Are(headers) => {
-            say_refused(headers, shape.d, path, out);
+            say_refused(streams, headers, shape.d, path, out);
             true
         }
         HeadersRead::Stopped(headers) => {
-            say_refused(headers, shape.d, path, out);
+            say_refused(streams, headers, shape.d, path, out);
             false
         }
         HeadersRead::Failed => false,
@@ -62,6 +66,8 @@ fn serve_headers(
 // Does 01's job on rules that have been read: prints their refusal, or the answer to each header; and answers whether the
 // job was done, which it is not where the rules have a flaw.
 fn serve_rules(
+    files: &impl Files<File = File>,
+    streams: Streams,
     rules: RulesSoFar,
     told: bool,
     rules_path: &[u8],
@@ -76,21 +82,33 @@ fn serve_rules(
     ensures { result ≡ true → flaw_number (tabled_flaw rules list.now table.old) ≡ 0 }
 {
     let opened = open_rules(rules, list, table, out);
-    if !write_out(out, opened.at) {
+    if !write_out(streams, out, opened.at) {
         return false;
     }
     let flaw = opened.flaw;
     if flaw_number(flaw) == 0 {
-        return serve_headers(rules, headers_path, bytes, list, table, header, out);
+        return serve_headers(
+            files,
+            streams,
+            rules,
+            headers_path,
+            bytes,
+            list,
+            table,
+            header,
+            out,
+        );
     }
     if !told {
-        say_flaw(flaw, rules_path, out);
+        say_flaw(streams, flaw, rules_path, out);
     }
     false
 }
 
 // Does 01's job on two files, and answers whether it was done.
 pub(crate) fn serve_files(
+    files: &impl Files<File = File>,
+    streams: Streams,
     rules_path: &[u8],
     headers_path: &[u8],
     bytes: &mut [u8],
@@ -101,9 +119,11 @@ pub(crate) fn serve_files(
 ) -> bool
     requires { line_most ≤ length out.old }
 {
-    let read = read_rules(rules_path, bytes, list);
+    let read = read_rules(files, streams, rules_path, bytes, list);
     match read {
         RulesRead::Are(rules, told) => serve_rules(
+            files,
+            streams,
             rules,
             told,
             rules_path,

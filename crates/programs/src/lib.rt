@@ -10,6 +10,8 @@
 //     2   the program was not called as it is to be
 #![tactic(auto)]
 
+pub mod bytes;
 pub mod output;
 pub mod start;
 pub mod status;
+pub mod streams;

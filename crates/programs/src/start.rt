@@ -1,6 +1,9 @@
 // The words that a program is started with. The first, --status, is not the program's own: it asks for the exit status to be
 // told.
-ghost use Rattle.io.specs.Counts.{IsPrefixLen};
+ghost use Rattle.std.specs.Io.{ReadsAtMost};
+
+use std::env::{Env, FillError};
+use std::io;
 
 // Whether the exit status is to be told, and how many words are the program's own.
 #[derive(Clone, Copy)]
@@ -9,16 +12,31 @@ pub struct Start {
     pub words: usize,
 }
 
+// The system's numbers of two errors: there is no such word, and a word that is longer than the run.
+const NO_WORD: i32 = 22;
+
+const LONG_WORD: i32 = 36;
+
+// Counts the words, the program's name among them.
+fn word_count(env: &impl Env) -> usize {
+    for i in 0..usize::MAX {
+        if let Err(FillError::NotPresent) = env.arg(i, &mut []) {
+            return i;
+        }
+    }
+    usize::MAX
+}
+
 // Says how the program was started.
-pub fn started() -> Start {
-    let count = os::arg_count();
+pub fn started(env: &impl Env) -> Start {
+    let count = word_count(env);
     if count < 2 {
         return Start {
             asked: false,
             words: 0,
         };
     }
-    if is_own(false, 0, b"--status") {
+    if is_own(env, false, 0, b"--status") {
         return Start {
             asked: true,
             words: count - 2,
@@ -30,23 +48,28 @@ pub fn started() -> Start {
     }
 }
 
-// Puts own word k, from 0, at the start of a run, and answers how many bytes it has, as `os::arg` does: 0, and errno says
-// why, where there is none or the run is too short.
-pub fn own_word(asked: bool, k: u8, run: &mut [u8]) -> usize
-    ensures { IsPrefixLen result run.new }
+// Puts own word k, from 0, at the start of a run, and answers how many bytes it has, or why it can't be put there: there is
+// none, or the run is too short.
+pub fn own_word(env: &impl Env, asked: bool, k: u8, run: &mut [u8]) -> io::Result<usize>
+    ensures { ReadsAtMost result run.new }
 {
-    if asked {
-        return os::arg(k as usize + 2, run);
+    let place = if asked {
+        k as usize + 2
+    } else {
+        k as usize + 1
+    };
+    match env.arg(place, run) {
+        Ok(n) => Ok(n),
+        Err(FillError::NotPresent) => Err(io::Error::from_raw_os_error(NO_WORD)),
+        Err(FillError::TooLong) => Err(io::Error::from_raw_os_error(LONG_WORD)),
     }
-    os::arg(k as usize + 1, run)
 }
 
 // Says whether own word k is the one given.
-pub fn is_own(asked: bool, k: u8, word: &[u8]) -> bool {
-    let mut run = io::buffer();
-    let n = own_word(asked, k, &mut run);
-    if os::errno() != 0 {
-        return false;
+pub fn is_own(env: &impl Env, asked: bool, k: u8, word: &[u8]) -> bool {
+    let mut run = [0u8; 4096];
+    match own_word(env, asked, k, &mut run) {
+        Ok(n) => &run[..n] == word,
+        Err(_) => false,
     }
-    check::same(&run[..n], word)
 }

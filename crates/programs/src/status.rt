@@ -2,6 +2,9 @@
 ghost use Rattle.std.specs.Prelude.{◌≡◌};
 ghost use Rattle.programs.specs.Status.{ended_of, digit_of};
 
+use std::fs::{Files, OpenOptions};
+use std::io::Write;
+
 // How a program has ended.
 #[derive(Clone, Copy)]
 pub enum Ended {
@@ -13,8 +16,8 @@ pub enum Ended {
     Misused,
 }
 
-// The descriptor on which the status is told.
-const STATUS_FILENO: i32 = 9;
+// The name of the descriptor on which the status is told.
+const STATUS_FILE: &str = "/dev/fd/9";
 
 // Says how a program has ended whose job was done, or was not.
 pub fn ended_by(done: bool) -> Ended
@@ -37,10 +40,16 @@ pub fn status_digit(ended: Ended) -> u8
     }
 }
 
-// Tells the status where that was asked for.
-pub fn tell_status(asked: bool, ended: Ended) {
+// Tells the status where that was asked for and there is someone to hear it.
+pub fn tell_status(files: &impl Files, asked: bool, ended: Ended) {
     if asked {
-        let text = [status_digit(ended)];
-        io::write_all(STATUS_FILENO, &text);
+        tell_digit(files, status_digit(ended));
+    }
+}
+
+// Writes a digit to the descriptor; where that can't be done it can be told to nobody.
+fn tell_digit(files: &impl Files, digit: u8) {
+    if let Ok(mut file) = OpenOptions::new().append(true).open(files, STATUS_FILE) {
+        let _ = file.write_all(&[digit]);
     }
 }
