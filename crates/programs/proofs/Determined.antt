@@ -4,6 +4,8 @@
 -- Assumes nothing.
 use mathlib.Core.Path.{sym, ◌∙◌}
 use Rattle.ranges.proofs.OneAnswer.{OneAnswer}
+use Rattle.programs.proofs.bytes.same.Kinds as same-kinds
+use Rattle.programs.proofs.bytes.same.Reads as same
 use Rattle.programs.proofs.status.ended_by.Kinds as ended-by-kinds
 use Rattle.programs.proofs.status.ended_by.Reads as Ended-by
 use Rattle.programs.proofs.status.status_digit.Kinds as status-digit-kinds
@@ -14,3 +16,6 @@ ended_by_one κs a x y e g p q = p ∙ sym q
 
 pub status_digit_one : OneAnswer 0 status-digit-kinds.ps status-digit-kinds.r status-digit.Learnt
 status_digit_one κs a x y e g p q = p ∙ sym q
+
+pub same_one : OneAnswer 2 same-kinds.ps same-kinds.r same.Learnt
+same_one κs a x y e g p q = p ∙ sym q

@@ -1,9 +1,8 @@
 // What the programs share: the words they are started with, bytes written out, and the exit status that they tell. No
 // layer; only programs cite it.
 //
-// The exit status. A program of the kit has none of its own: `main` returns nothing, and the system is told 0. So a
-// program whose first word is --status tells its status, one digit, on descriptor 9, where `scripts/with-status` hears it
-// and ends with it. Without that word nothing is written there.
+// The exit status. The process itself always ends with 0. A program whose first word is --status tells its status, one
+// digit, on descriptor 9, where `scripts/with-status` hears it and ends with it. Without that word nothing is written there.
 //
 //     0   the job was done
 //     1   something was refused as a whole, or could not be read or written
