@@ -11,71 +11,71 @@ use Rattle.rulesfile.specs.declared.file.RulesSoFar.{RulesSoFar}
 use Rattle.answers.specs.Said.{PutLine}
 use Rattle.answers.specs.Opened.{opened_said, OpenedWith}
 use Rattle.answers.specs.declared.open.Opened.{Opened}
-use Rattle.answers.proofs.answer.header_flaw.Kinds as header-flaw-kinds
-use Rattle.answers.proofs.answer.header_flaw.Reads as header-flaw
-use Rattle.answers.proofs.answer.is_refused.Kinds as is-refused-kinds
-use Rattle.answers.proofs.answer.is_refused.Reads as is-refused
-use Rattle.answers.proofs.answer.put_answer.Kinds as put-answer-kinds
-use Rattle.answers.proofs.answer.put_answer.Reads as put-answer
-use Rattle.answers.proofs.count.count_start.Kinds as count-start-kinds
-use Rattle.answers.proofs.count.count_start.Reads as count-start
-use Rattle.answers.proofs.count.counted.Kinds as counted-kinds
-use Rattle.answers.proofs.count.counted.Reads as counted
-use Rattle.answers.proofs.say.put_head.Kinds as put-head-kinds
-use Rattle.answers.proofs.say.put_head.Reads as put-head
-use Rattle.answers.proofs.say.put_refused.Kinds as put-refused-kinds
-use Rattle.answers.proofs.say.put_refused.Reads as Put-refused
-use Rattle.answers.proofs.say.put_looked.Kinds as put-looked-kinds
-use Rattle.answers.proofs.say.put_looked.Reads as put-looked
-use Rattle.answers.proofs.complain.put_headers_flaws.Kinds as put-headers-flaws-kinds
-use Rattle.answers.proofs.complain.put_headers_flaws.Reads as put-headers-flaws
-use Rattle.answers.proofs.open.open_rules.Kinds as open-rules-kinds
-use Rattle.answers.proofs.open.open_rules.Reads as open-rules
+use Rattle.answers.proofs.answer.header_flaw.Kinds as header_flaw_kinds
+use Rattle.answers.proofs.answer.header_flaw.Reads as header_flaw_reads
+use Rattle.answers.proofs.answer.is_refused.Kinds as is_refused_kinds
+use Rattle.answers.proofs.answer.is_refused.Reads as is_refused_reads
+use Rattle.answers.proofs.answer.put_answer.Kinds as put_answer_kinds
+use Rattle.answers.proofs.answer.put_answer.Reads as put_answer_reads
+use Rattle.answers.proofs.count.count_start.Kinds as count_start_kinds
+use Rattle.answers.proofs.count.count_start.Reads as count_start_reads
+use Rattle.answers.proofs.count.counted.Kinds as counted_kinds
+use Rattle.answers.proofs.count.counted.Reads as counted_reads
+use Rattle.answers.proofs.say.put_head.Kinds as put_head_kinds
+use Rattle.answers.proofs.say.put_head.Reads as put_head_reads
+use Rattle.answers.proofs.say.put_refused.Kinds as put_refused_kinds
+use Rattle.answers.proofs.say.put_refused.Reads as put_refused_reads
+use Rattle.answers.proofs.say.put_looked.Kinds as put_looked_kinds
+use Rattle.answers.proofs.say.put_looked.Reads as put_looked_reads
+use Rattle.answers.proofs.complain.put_headers_flaws.Kinds as put_headers_flaws_kinds
+use Rattle.answers.proofs.complain.put_headers_flaws.Reads as put_headers_flaws_reads
+use Rattle.answers.proofs.open.open_rules.Kinds as open_rules_kinds
+use Rattle.answers.proofs.open.open_rules.Reads as open_rules_reads
 
 -- ---- answer
-pub header_flaw_one : OneAnswer 0 header-flaw-kinds.ps header-flaw-kinds.r header-flaw.Learnt
+pub header_flaw_one : OneAnswer 0 header_flaw_kinds.ps header_flaw_kinds.r header_flaw_reads.Learnt
 header_flaw_one κs a x y e g p q = p ∙ sym q
 
-pub is_refused_one : OneAnswer 0 is-refused-kinds.ps is-refused-kinds.r is-refused.Learnt
+pub is_refused_one : OneAnswer 0 is_refused_kinds.ps is_refused_kinds.r is_refused_reads.Learnt
 is_refused_one κs a x y e g p q = p ∙ sym q
 
-pub put_answer_one : OneAnswer 3 put-answer-kinds.ps put-answer-kinds.r put-answer.Learnt
+pub put_answer_one : OneAnswer 3 put_answer_kinds.ps put_answer_kinds.r put_answer_reads.Learnt
 put_answer_one κs a x y e g p q = place_one p.put q.put
 
-pub put_answer_run_one : OneRun 3 put-answer-kinds.ps put-answer-kinds.r put-answer.Learnt (λ κs e. e.1.1.1.1.1.0.now)
+pub put_answer_run_one : OneRun 3 put_answer_kinds.ps put_answer_kinds.r put_answer_reads.Learnt (λ κs e. e.1.1.1.1.1.0.now)
 put_answer_run_one κs a x y e g p q = bytes_one p.put q.put
 
 -- ---- count
-pub count_start_one : OneAnswer 0 count-start-kinds.ps count-start-kinds.r count-start.Learnt
+pub count_start_one : OneAnswer 0 count_start_kinds.ps count_start_kinds.r count_start_reads.Learnt
 count_start_one κs a x y e g p q = p ∙ sym q
 
-pub counted_one : OneAnswer 0 counted-kinds.ps counted-kinds.r counted.Learnt
+pub counted_one : OneAnswer 0 counted_kinds.ps counted_kinds.r counted_reads.Learnt
 counted_one κs a x y e g p q = p ∙ sym q
 
 -- ---- say
-pub put_head_one : OneAnswer 1 put-head-kinds.ps put-head-kinds.r put-head.Learnt
+pub put_head_one : OneAnswer 1 put_head_kinds.ps put_head_kinds.r put_head_reads.Learnt
 put_head_one κs a x y e g p q = place_one p q
 
-pub put_head_run_one : OneRun 1 put-head-kinds.ps put-head-kinds.r put-head.Learnt (λ κs e. e.0.now)
+pub put_head_run_one : OneRun 1 put_head_kinds.ps put_head_kinds.r put_head_reads.Learnt (λ κs e. e.0.now)
 put_head_run_one κs a x y e g p q = bytes_one p q
 
-pub put_refused_one : OneAnswer 1 put-refused-kinds.ps put-refused-kinds.r Put-refused.Learnt
+pub put_refused_one : OneAnswer 1 put_refused_kinds.ps put_refused_kinds.r put_refused_reads.Learnt
 put_refused_one κs a x y e g p q = place_one p.put q.put
 
-pub put_refused_run_one : OneRun 1 put-refused-kinds.ps put-refused-kinds.r Put-refused.Learnt (λ κs e. e.1.0.now)
+pub put_refused_run_one : OneRun 1 put_refused_kinds.ps put_refused_kinds.r put_refused_reads.Learnt (λ κs e. e.1.0.now)
 put_refused_run_one κs a x y e g p q = bytes_one p.put q.put
 
-pub put_looked_one : OneAnswer 1 put-looked-kinds.ps put-looked-kinds.r put-looked.Learnt
+pub put_looked_one : OneAnswer 1 put_looked_kinds.ps put_looked_kinds.r put_looked_reads.Learnt
 put_looked_one κs a x y e g p q = place_one p.put q.put
 
-pub put_looked_run_one : OneRun 1 put-looked-kinds.ps put-looked-kinds.r put-looked.Learnt (λ κs e. e.1.0.now)
+pub put_looked_run_one : OneRun 1 put_looked_kinds.ps put_looked_kinds.r put_looked_reads.Learnt (λ κs e. e.1.0.now)
 put_looked_run_one κs a x y e g p q = bytes_one p.put q.put
 
 -- ---- complain
-pub put_headers_flaws_one : OneAnswer 2 put-headers-flaws-kinds.ps put-headers-flaws-kinds.r put-headers-flaws.Learnt
+pub put_headers_flaws_one : OneAnswer 2 put_headers_flaws_kinds.ps put_headers_flaws_kinds.r put_headers_flaws_reads.Learnt
 put_headers_flaws_one κs a x y e g p q = place_one p q
 
-pub put_headers_flaws_run_one : OneRun 2 put-headers-flaws-kinds.ps put-headers-flaws-kinds.r put-headers-flaws.Learnt (λ κs e. e.1.1.1.0.now)
+pub put_headers_flaws_run_one : OneRun 2 put_headers_flaws_kinds.ps put_headers_flaws_kinds.r put_headers_flaws_reads.Learnt (λ κs e. e.1.1.1.0.now)
 put_headers_flaws_run_one κs a x y e g p q = bytes_one p q
 
 -- ---- open
@@ -92,11 +92,11 @@ module _ (rules : RulesSoFar) (list table out : List ℕ) {r s : Opened} {built 
   opened_alike =
       ap (λ f. record { flaw = f; at = r.at }) flaw_alike ∙ ap (λ k. record { flaw = s.flaw; at = k }) (place_one p.prints.put line_alike.put)
 
-pub open_rules_one : OneAnswer 3 open-rules-kinds.ps open-rules-kinds.r open-rules.Learnt
+pub open_rules_one : OneAnswer 3 open_rules_kinds.ps open_rules_kinds.r open_rules_reads.Learnt
 open_rules_one κs a x y e g p q = opened_alike _ _ _ _ p q
 
-pub open_rules_table_one : OneRun 3 open-rules-kinds.ps open-rules-kinds.r open-rules.Learnt (λ κs e. e.1.1.0.now)
+pub open_rules_table_one : OneRun 3 open_rules_kinds.ps open_rules_kinds.r open_rules_reads.Learnt (λ κs e. e.1.1.0.now)
 open_rules_table_one κs a x y e g p q = p.builds ∙ sym q.builds
 
-pub open_rules_run_one : OneRun 3 open-rules-kinds.ps open-rules-kinds.r open-rules.Learnt (λ κs e. e.1.1.1.0.now)
+pub open_rules_run_one : OneRun 3 open_rules_kinds.ps open_rules_kinds.r open_rules_reads.Learnt (λ κs e. e.1.1.1.0.now)
 open_rules_run_one κs a x y e g p q = bytes_one p.prints.put (line_alike _ _ _ _ p q).put

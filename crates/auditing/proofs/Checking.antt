@@ -1,7 +1,7 @@
 -- Laws of the tests of a linear audit (`specs/Checks.antt`), as the code of `checks.rt` makes them.
 --     cell_from, cell_to                      a run-from, a run-to that is read stands in the table
 --     start_part, start_behind, starts_told   one start, and all of them
---     Marked, marked-none, marked-over, marked-twice, marked_more, marked-end      each rule marked once
+--     Marked, marked_none, marked_over, marked_twice, marked_more, marked_end      each rule marked once
 --     least_part, least_behind, leasts_told   one smallest number, and all of them
 --     meet-not, meet_test                     one field of two neighbours
 --     end_not, end_test                       one field of a partition's first and last place

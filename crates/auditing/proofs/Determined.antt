@@ -3,8 +3,8 @@
 -- Assumes nothing.
 use mathlib.Core.Path.{sym, ◌∙◌}
 use Rattle.ranges.proofs.OneAnswer.{OneAnswer}
-use Rattle.auditing.proofs.audit.audit.Kinds as audit-kinds
-use Rattle.auditing.proofs.audit.audit.Reads as audit
+use Rattle.auditing.proofs.audit.audit.Kinds as audit_kinds
+use Rattle.auditing.proofs.audit.audit.Reads as audit_reads
 
-pub audit_one : OneAnswer 2 audit-kinds.ps audit-kinds.r audit.Learnt
+pub audit_one : OneAnswer 2 audit_kinds.ps audit_kinds.r audit_reads.Learnt
 audit_one κs a x y e g p q = p ∙ sym q

@@ -2,7 +2,7 @@
 --     checked_laid                 a table that has them is that of the run read off it
 --     laid_checked                 the table of a choice has them
 --     off_back                     the run read off the table of a choice is the choice
---     Made, checked-made, made-checked, made-once      the two as one statement: some choice makes the table; one alone
+--     Made, checked_made, made_checked, made_once      the two as one statement: some choice makes the table; one alone
 -- Assumes nothing.
 use Prim.Native.Nat.{ℕ, zero, suc, ◌≤◌, ◌<◌}
 use mathlib.Core.Bool.{Bool, true, false}

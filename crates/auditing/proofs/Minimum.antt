@@ -2,7 +2,7 @@
 --     smallest-none, smallest_more      no number; one number more
 --     smallest_le, smallest_at          it is at most each of them, and is one of them where they are below x
 --     least-smallest, smallest_once     of a partition's places it is the smallest rule number, and there is one alone
---     Lowest, lowest-none, lowest-more, lowest-end      the loop that goes through the places
+--     Lowest, lowest-none, lowest_more, lowest_end      the loop that goes through the places
 -- Assumes nothing.
 use Prim.Native.Nat.{ℕ, zero, suc, min, ◌+◌, ◌-◌, ◌≤◌, ◌<◌}
 use mathlib.Core.Bool.{Bool, true, false}

@@ -1,5 +1,5 @@
 -- The tests of a linear audit (`specs/Checks.antt`) pass exactly where the local facts hold (`specs/Checked.antt`).
---     Passed, passed, passed-all            all tests, one by one
+--     Passed, passed, passed_all            all tests, one by one
 --     passed_checked, checked_passed        they say what the facts say, either way
 --     laid_fields, laid_held, laid_few, laid_parted, by-opening, by_starts, by_rules, by_leasts, by_parts      as the code makes them
 -- Assumes nothing.

@@ -1,14 +1,14 @@
 -- What a reader may rely on of the audit (of layer 3). The statements, R a list with its shape, T a table, run a run of partition numbers:
 --
---     T12  audit-yes-iff            an audit says yes exactly when there is a run that `lay_out` accepts and whose table this is: handed this
+--     T12  audit_yes_iff            an audit says yes exactly when there is a run that `lay_out` accepts and whose table this is: handed this
 --                                   list, this run and this table, it answers b and leaves the table as it is
---          audit-no-iff             it says no exactly when none of 1 to 5 applies and there is no such run
---          one-run-alone            there is no second such run
---          read-off-is-run          the run read off the table that a list and a choice make is that choice
---          checked-iff              a list and a table that meet none of 1 to 5 have the local facts (`Checked`) exactly when there is such a run
---          lay-out-then-audit       a table that was just laid out is audited yes
---          build-then-audit         a table that was just built is audited yes
---          audit-fine, audited-promises      of a list and a table that are audited yes none of 1 to 5 applies, and the table keeps the promise
+--          audit_no_iff             it says no exactly when none of 1 to 5 applies and there is no such run
+--          one_run_alone            there is no second such run
+--          read_off_is_run          the run read off the table that a list and a choice make is that choice
+--          checked_iff              a list and a table that meet none of 1 to 5 have the local facts (`Checked`) exactly when there is such a run
+--          lay_out_then_audit       a table that was just laid out is audited yes
+--          build_then_audit         a table that was just built is audited yes
+--          audit_fine, audited_promises      of a list and a table that are audited yes none of 1 to 5 applies, and the table keeps the promise
 --
 -- The contract of `audit` is an equation with `audit_of`, so each statement is one on the function.
 -- Assumes nothing.

@@ -13,32 +13,32 @@ use Rattle.text.proofs.Determined.{place_one, bytes_one}
 use Rattle.calls.specs.declared.reply.Place.{Place}
 use Rattle.hearing.specs.Lines.{Heard, heard}
 use Rattle.calls.specs.Replies.{served_byte, said_to, ServedLines}
-use Rattle.calls.proofs.word.word_of.Kinds as word-of-kinds
-use Rattle.calls.proofs.word.word_of.Reads as word_of
-use Rattle.calls.proofs.word.flags_fit.Kinds as flags-fit-kinds
-use Rattle.calls.proofs.word.flags_fit.Reads as flags-fit
-use Rattle.calls.proofs.answer.answer.Kinds as answer-kinds
-use Rattle.calls.proofs.answer.answer.Reads as answer
-use Rattle.calls.proofs.reply.serve_lines.Kinds as serve-lines-kinds
-use Rattle.calls.proofs.reply.serve_lines.Reads as serve-lines
-use Rattle.calls.proofs.reply.put_last.Kinds as put-last-kinds
-use Rattle.calls.proofs.reply.put_last.Reads as put_last
+use Rattle.calls.proofs.word.word_of.Kinds as word_of_kinds
+use Rattle.calls.proofs.word.word_of.Reads as word_of_reads
+use Rattle.calls.proofs.word.flags_fit.Kinds as flags_fit_kinds
+use Rattle.calls.proofs.word.flags_fit.Reads as flags_fit_reads
+use Rattle.calls.proofs.answer.answer.Kinds as answer_kinds
+use Rattle.calls.proofs.answer.answer.Reads as answer_reads
+use Rattle.calls.proofs.reply.serve_lines.Kinds as serve_lines_kinds
+use Rattle.calls.proofs.reply.serve_lines.Reads as serve_lines_reads
+use Rattle.calls.proofs.reply.put_last.Kinds as put_last_kinds
+use Rattle.calls.proofs.reply.put_last.Reads as put_last_reads
 
 -- ---- word
-pub word_of_one : OneAnswer 1 word-of-kinds.ps word-of-kinds.r word_of.Learnt
+pub word_of_one : OneAnswer 1 word_of_kinds.ps word_of_kinds.r word_of_reads.Learnt
 word_of_one κs a x y e g p q = p ∙ sym q
 
-pub flags_fit_one : OneAnswer 0 flags-fit-kinds.ps flags-fit-kinds.r flags-fit.Learnt
+pub flags_fit_one : OneAnswer 0 flags_fit_kinds.ps flags_fit_kinds.r flags_fit_reads.Learnt
 flags_fit_one κs a x y e g p q = p ∙ sym q
 
 -- ---- answer
-pub answer_one : OneAnswer 3 answer-kinds.ps answer-kinds.r answer.Learnt
+pub answer_one : OneAnswer 3 answer_kinds.ps answer_kinds.r answer_reads.Learnt
 answer_one κs a x y e g p q = place_one p.0.puts q.0.puts
 
-pub answer_numbers_one : OneRun 3 answer-kinds.ps answer-kinds.r answer.Learnt (λ κs e. e.1.1.0.now)
+pub answer_numbers_one : OneRun 3 answer_kinds.ps answer_kinds.r answer_reads.Learnt (λ κs e. e.1.1.0.now)
 answer_numbers_one κs a x y e g p q = p.1 ∙ sym q.1
 
-pub answer_bytes_one : OneRun 3 answer-kinds.ps answer-kinds.r answer.Learnt (λ κs e. e.1.1.1.0.now)
+pub answer_bytes_one : OneRun 3 answer_kinds.ps answer_kinds.r answer_reads.Learnt (λ κs e. e.1.1.1.0.now)
 answer_bytes_one κs a x y e g p q = bytes_one p.0.puts q.0.puts
 
 -- ---- reply
@@ -65,23 +65,23 @@ module _ {s : Heard} {bytes out : List ℕ} {x y : Place} {name name' numbers nu
   put_one : after ≡ after'
   put_one = bytes_one said_at q.said
 
-pub serve_lines_one : OneAnswer 4 serve-lines-kinds.ps serve-lines-kinds.r serve-lines.Learnt
+pub serve_lines_one : OneAnswer 4 serve_lines_kinds.ps serve_lines_kinds.r serve_lines_reads.Learnt
 serve_lines_one κs a x y e g p q = placed_one p q
 
-pub serve_lines_name_one : OneRun 4 serve-lines-kinds.ps serve-lines-kinds.r serve-lines.Learnt (λ κs e. e.1.1.0.now)
+pub serve_lines_name_one : OneRun 4 serve_lines_kinds.ps serve_lines_kinds.r serve_lines_reads.Learnt (λ κs e. e.1.1.0.now)
 serve_lines_name_one κs a x y e g p q = ap (λ h. h.name) (heard_one p q)
 
-pub serve_lines_numbers_one : OneRun 4 serve-lines-kinds.ps serve-lines-kinds.r serve-lines.Learnt (λ κs e. e.1.1.1.0.now)
+pub serve_lines_numbers_one : OneRun 4 serve_lines_kinds.ps serve_lines_kinds.r serve_lines_reads.Learnt (λ κs e. e.1.1.1.0.now)
 serve_lines_numbers_one κs a x y e g p q = ap (λ h. h.numbers) (heard_one p q)
 
-pub serve_lines_bytes_one : OneRun 4 serve-lines-kinds.ps serve-lines-kinds.r serve-lines.Learnt (λ κs e. e.1.1.1.1.0.now)
+pub serve_lines_bytes_one : OneRun 4 serve_lines_kinds.ps serve_lines_kinds.r serve_lines_reads.Learnt (λ κs e. e.1.1.1.1.0.now)
 serve_lines_bytes_one κs a x y e g p q = put_one p q
 
-pub put_last_one : OneAnswer 3 put-last-kinds.ps put-last-kinds.r put_last.Learnt
+pub put_last_one : OneAnswer 3 put_last_kinds.ps put_last_kinds.r put_last_reads.Learnt
 put_last_one κs a x y e g p q = place_one p.said q.said
 
-pub put_last_numbers_one : OneRun 3 put-last-kinds.ps put-last-kinds.r put_last.Learnt (λ κs e. e.1.1.0.now)
+pub put_last_numbers_one : OneRun 3 put_last_kinds.ps put_last_kinds.r put_last_reads.Learnt (λ κs e. e.1.1.0.now)
 put_last_numbers_one κs a x y e g p q = p.left_is ∙ sym q.left_is
 
-pub put_last_bytes_one : OneRun 3 put-last-kinds.ps put-last-kinds.r put_last.Learnt (λ κs e. e.1.1.1.0.now)
+pub put_last_bytes_one : OneRun 3 put_last_kinds.ps put_last_kinds.r put_last_reads.Learnt (λ κs e. e.1.1.1.0.now)
 put_last_bytes_one κs a x y e g p q = bytes_one p.said q.said

@@ -1,9 +1,9 @@
 -- Laws of what the functions that read, hand on and write leave (`specs/Serving.antt`).
 --     readied_bytes                                           what was read
---     RulesOn, on-start, on-more, on-flawed, on-ended         its pieces, one after the other
+--     RulesOn, on_start, on_more, on_flawed, on_ended         its pieces, one after the other
 --     said_front, end_front, quiet-fed, quiet_end             what was printed before does not matter
 --     part_taken, TurnOn, turn_start, turn_more, turn_all, turn_some    the bytes of one read
---     HeadersOn, headers-start, headers-more, headers-ended   the headers file's pieces, one after the other
+--     HeadersOn, headers_start, headers_more, headers_ended   the headers file's pieces, one after the other
 --     read_at_front                                           answered by what stands at the front of what is lent
 -- Assumes nothing.
 use Prim.Native.Nat.{ℕ, ◌+◌, ◌-◌, ◌/◌, ◌≤◌, ◌<◌}

@@ -1,6 +1,6 @@
 -- Laws of a rule's fields at an end of their ranges (`specs/Edges.antt`).
 --     end_read                    the code's test of one field
---     AtEdge, edge-at-iff         what it means that a rule has a field at an end
+--     AtEdge, edge_at_iff         what it means that a rule has a field at an end
 --     edge_listed                 of a rule of a list whose shape stands, whether the list has it need not be asked
 --     edge_same                   only the first d numbers of a header are read
 -- Assumes nothing.

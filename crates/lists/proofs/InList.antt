@@ -1,6 +1,6 @@
 -- Laws of which rules a list has (`specs/Faults.antt`, `in_list`).
 --     in_no_fields, in_many_fields, in_by      as the code tests it: d, and then where the rule's last field ends
---     Listed, in_told, in-told-by, in-yes      what yes says, and when it is said
+--     Listed, in_told, in_told_by, in_yes      what yes says, and when it is said
 --     listed-rule, shaped_in                   such a rule stands in the list; each rule of a list whose shape stands is one
 --     unlisted, if_listed                      a test of a rule that the list has, as the code works it out
 -- Assumes nothing.

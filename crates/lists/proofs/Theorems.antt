@@ -1,25 +1,25 @@
 -- What a reader may rely on of lists (layer 2). The statements, R a list with its shape and h a header:
 --
---     T6  check-is-n-iff          a check answers n exactly when none of 1 to 4 applies
---         check-4-iff             it refuses by 4 at (i, f) exactly when the shape stands, the range there holds no number, and none before does so
---     T7  scan-rule-iff           a scan answers rule i exactly when none of 1 to 4 applies, i fits, and no rule before i fits
---         scan-nothing-iff        it answers none exactly when none of 1 to 4 applies and no rule fits
---         rule-fits-iff           one rule's test answers yes exactly when d is 1 to 8, the list has the rule, and all d numbers are in its ranges
---         scan-unread             headers that agree on the first d numbers get the same answer; `fits_in_unread`: of one rule, too
---     T8  independent-iff         the answer is yes exactly when none of 1 to 4 applies and no header at all fits two different rules
---         pair-iff                it is (i, j) exactly when none of 1 to 4 applies, a header fits both, and no pair before (i, j) is fitted by one
---         independent-words-iff   both of a list of 32-bit numbers, the headers being those of eight 32-bit numbers alone: yes exactly when none
+--     T6  check_is_n_iff          a check answers n exactly when none of 1 to 4 applies
+--         check_4_iff             it refuses by 4 at (i, f) exactly when the shape stands, the range there holds no number, and none before does so
+--     T7  scan_rule_iff           a scan answers rule i exactly when none of 1 to 4 applies, i fits, and no rule before i fits
+--         scan_nothing_iff        it answers none exactly when none of 1 to 4 applies and no rule fits
+--         rule_fits_iff           one rule's test answers yes exactly when d is 1 to 8, the list has the rule, and all d numbers are in its ranges
+--         scan_unread             headers that agree on the first d numbers get the same answer; `fits_in_unread`: of one rule, too
+--     T8  independent_iff         the answer is yes exactly when none of 1 to 4 applies and no header at all fits two different rules
+--         pair_iff                it is (i, j) exactly when none of 1 to 4 applies, a header fits both, and no pair before (i, j) is fitted by one
+--         independent_words_iff   both of a list of 32-bit numbers, the headers being those of eight 32-bit numbers alone: yes exactly when none
 --                                 of 1 to 4 applies and no such header fits two different rules;
---         pair-words-iff          (i, j) exactly when none applies, such a header fits both, and no pair before is fitted by one
---         pair-header             the header of the greater lows fits both; it has eight numbers, of 32 bits where the list's are
---     W2  edge-iff                a rule has a field at an end exactly when in one of the d fields the number is low or the last number of its range
---         rule-edge-iff           one rule's test answers yes exactly when d is 1 to 8, the list has the rule, and it has such a field
---         edge-unread             headers that agree on the first d numbers get the same answer
---     W8  flags-past-d-unread     shapes of one d whose flags agree below d give a list one and the same meaning, so that every operation gives
+--         pair_words_iff          (i, j) exactly when none applies, such a header fits both, and no pair before is fitted by one
+--         pair_header             the header of the greater lows fits both; it has eight numbers, of 32 bits where the list's are
+--     W2  edge_iff                a rule has a field at an end exactly when in one of the d fields the number is low or the last number of its range
+--         rule_edge_iff           one rule's test answers yes exactly when d is 1 to 8, the list has the rule, and it has such a field
+--         edge_unread             headers that agree on the first d numbers get the same answer
+--     W8  flags_past_d_unread     shapes of one d whose flags agree below d give a list one and the same meaning, so that every operation gives
 --                                 the same answer and leaves the same table
---         date-ends-before-high   a range of dates ends before its high ..
---         plain-ends-with-high    .. and every range of a list without flags with it
---         equal-highs-iff         highs of one field are equal exactly when their ends are, so that ranges are equal as 01 has it
+--         date_ends_before_high   a range of dates ends before its high ..
+--         plain_ends_with_high    .. and every range of a list without flags with it
+--         equal_highs_iff         highs of one field are equal exactly when their ends are, so that ranges are equal as 01 has it
 --
 -- The contracts of `check_list`, `plain_scan`, `rule_fits`, `independence` and `rule_edge` are equations with the definitions named here, so each
 -- statement is one on the function. A header is any list of numbers, but for the two statements of T8 that say otherwise: what is said of

@@ -1,6 +1,6 @@
 -- Laws of the end of a walk at field d (`specs/Walk.antt`).
 --     arrive_many, arrive_unfit, arrive_fits      not one place; no such rule or one that does not fit; the candidate i
---     Arrived, arrived, arrived-yes               what an answer says, either way round
+--     Arrived, arrived, arrived_yes               what an answer says, either way round
 -- Assumes nothing.
 use Prim.Native.Nat.{ℕ, ◌+◌, ◌≤◌, ◌<◌}
 use mathlib.Core.Bool.{Bool, true, false}

@@ -3,8 +3,8 @@
 -- Assumes nothing.
 use mathlib.Core.Path.{sym, ◌∙◌}
 use Rattle.ranges.proofs.OneAnswer.{OneAnswer}
-use Rattle.lookup.proofs.lookup.lookup.Kinds as lookup-kinds
-use Rattle.lookup.proofs.lookup.lookup.Reads as lookup
+use Rattle.lookup.proofs.lookup.lookup.Kinds as lookup_kinds
+use Rattle.lookup.proofs.lookup.lookup.Reads as lookup_reads
 
-pub lookup_one : OneAnswer 2 lookup-kinds.ps lookup-kinds.r lookup.Learnt
+pub lookup_one : OneAnswer 2 lookup_kinds.ps lookup_kinds.r lookup_reads.Learnt
 lookup_one κs a x y e g p q = p ∙ sym q

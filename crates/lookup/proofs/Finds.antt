@@ -1,6 +1,6 @@
 -- A walk through a partition of a table that keeps the promise is never broken, and it finds the rule of the partition that fits, if
 -- there is one: by the invariant of its groups (`Groups.antt`), at each test and at each of its ends.
---     Finds, walk-finds        the walk finds what fits
+--     Finds, walk_finds        the walk finds what fits
 -- Assumes nothing.
 use Prim.Native.Nat.{ℕ, zero, suc, ◌+◌, ◌-◌, ◌≤◌, ◌<◌}
 use mathlib.Core.Bool.{Bool, true, false}

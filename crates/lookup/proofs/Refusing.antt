@@ -2,7 +2,7 @@
 -- table that open are refused exactly where some partition is not skipped and broken (`Brokens.antt`), and by the first that is.
 --     RefusedBy, refused-by           the five rows that it may give
 --     lookup_broken, lookup_fine      of a table that opens: exactly where some partition is not skipped and broken
---     FirstBroken, lookup-6-iff       the partition at which it is
+--     FirstBroken, lookup_6_iff       the partition at which it is
 -- Assumes nothing.
 use Prim.Native.Nat.{ℕ, zero, suc, ◌+◌, ◌%◌, ◌*◌, ◌≤◌, ◌<◌}
 use mathlib.Core.Bool.{Bool, true, false, not}

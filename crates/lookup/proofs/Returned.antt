@@ -2,7 +2,7 @@
 -- A walk names only such a rule (`Named.antt`), the smallest candidate of several is one of them, and the edge is worked out from it.
 --     visit_fits, turn_fits            of a partition
 --     sooner_fits                      of the smaller of two candidates
---     Returned, rule-returned          of a lookup
+--     Returned, rule_returned          of a lookup
 -- Assumes nothing.
 use Prim.Native.Nat.{ℕ, zero, suc, ◌+◌, min, ◌<◌}
 use mathlib.Core.Bool.{Bool, true, false}

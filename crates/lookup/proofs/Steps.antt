@@ -2,9 +2,9 @@
 -- before b are what was read at the middle place m.
 --     run_before_group, run_past_mid, run_short, run_to_end      the tests of a run in their order
 --     step_beyond, step_astray, step_by                          no such rule; a run that may not be trusted; the test itself
---     Trusted, trusted, trusted-stands                           a run that may be trusted, either way round
+--     Trusted, trusted, trusted_stands                           a run that may be trusted, either way round
 --     Tested, test                                               the outcomes, with the facts that lead to each
---     Smaller, step-smaller, told-smaller                        what is left is smaller
+--     Smaller, step-smaller, told_smaller                        what is left is smaller
 -- Assumes nothing.
 use Prim.Native.Nat.{ℕ, ◌+◌, ◌-◌, ◌≤◌, ◌<◌}
 use mathlib.Core.Bool.{Bool, true, false}

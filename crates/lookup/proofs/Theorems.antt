@@ -3,37 +3,37 @@
 --
 --     1. Every answer and every refusal is the written one.
 --        (the contract)                   the lookup is `lookup_of`, for all lists, tables and headers, and it ends
---        walk-enough                      a walk does not depend on how many tests it may make, once they are enough: it never ends for want of them
---        returned-rule-fits               a rule returned is one of the list and fits the header, whatever the table
---        other-flags-still-fit            so also over a table that was built under other flags: it fits under the lookup's
---        edge-is-the-winners              the edge returned with it is that rule's own, whatever the table
---        refusal-carries-nothing          a refusal carries no match, a count of 0 and no edge
---        none-has-no-edge                 nor has an answer that no rule fits
---        refused-by-a-row                 it is 1, 2, 3, 5 or 6 with place 0, and never 4
+--        walk_enough                      a walk does not depend on how many tests it may make, once they are enough: it never ends for want of them
+--        returned_rule_fits               a rule returned is one of the list and fits the header, whatever the table
+--        other_flags_still_fit            so also over a table that was built under other flags: it fits under the lookup's
+--        edge_is_the_winners              the edge returned with it is that rule's own, whatever the table
+--        refusal_carries_nothing          a refusal carries no match, a count of 0 and no edge
+--        none_has_no_edge                 nor has an answer that no rule fits
+--        refused_by_a_row                 it is 1, 2, 3, 5 or 6 with place 0, and never 4
 --        opening-refuses                  1, 2, 3, 5 and 6 for the opening come first, in this order
---        broken-partition-refuses         else a partition that is not skipped and is broken, in the paper's own conditions, refuses the whole call
+--        broken_partition_refuses         else a partition that is not skipped and is broken, in the paper's own conditions, refuses the whole call
 --                                         with 6 ..
---        nothing-else-refuses             .. and nothing else does
---        refuses-6-iff                    so of a table that opens 6 is given exactly where some partition is not skipped and broken, and none before it
---        numbers-past-d-unread            headers that agree on the first d numbers get the same answer, edge and all
+--        nothing_else_refuses             .. and nothing else does
+--        refuses_6_iff                    so of a table that opens 6 is given exactly where some partition is not skipped and broken, and none before it
+--        numbers_past_d_unread            headers that agree on the first d numbers get the same answer, edge and all
 --     2. The match is the first match.
---        lookup-is-first-match            of a table that keeps the promise: never a refusal, and the first match
---        lookup-rule-iff                  of such a table: rule i exactly when i is the first rule that fits ..
---        lookup-none-iff                  .. and none exactly when no rule fits
---        build-then-lookup                of the table that a build left, for every list that it accepted
---        built-rule-iff                   of that table: rule i exactly when i is the first rule that fits ..
---        built-none-iff                   .. and none exactly when no rule fits
---        built-lookup, choice-then-lookup of the table of first fit, and of any choice of partitions
---        lay-out-then-lookup              of the table that a laying out left, for every list and run that it accepted
---        audited-then-lookup              of every table that is audited yes, whoever wrote it: no refusal, the first match, at most d + k tests a partition
+--        lookup_is_first_match            of a table that keeps the promise: never a refusal, and the first match
+--        lookup_rule_iff                  of such a table: rule i exactly when i is the first rule that fits ..
+--        lookup_none_iff                  .. and none exactly when no rule fits
+--        build_then_lookup                of the table that a build left, for every list that it accepted
+--        built_rule_iff                   of that table: rule i exactly when i is the first rule that fits ..
+--        built_none_iff                   .. and none exactly when no rule fits
+--        built_lookup, choice_then_lookup of the table of first fit, and of any choice of partitions
+--        lay_out_then_lookup              of the table that a laying out left, for every list and run that it accepted
+--        audited_then_lookup              of every table that is audited yes, whoever wrote it: no refusal, the first match, at most d + k tests a partition
 --     3. The count is the written walk's, and small.
---        count-is-the-sum                 it is the sum of the tests of the partitions that are visited
---        partition-tests                  at most d + k in a partition of m rules, 2^k being the largest power of two within m
---        total-tests                      so at most the sum of these
---        skipping-is-no-worse             of a table that keeps the promise: the match and the edge of 01's search of all partitions, and never more tests
---        size-has-k                       every partition has such a k
---        empty-list-costs-none            of no rules: none, and no test
---        bound-is-reached                 for every d, m and flags a list and a header reach d + k
+--        count_is_the_sum                 it is the sum of the tests of the partitions that are visited
+--        partition_tests                  at most d + k in a partition of m rules, 2^k being the largest power of two within m
+--        total_tests                      so at most the sum of these
+--        skipping_is_no_worse             of a table that keeps the promise: the match and the edge of 01's search of all partitions, and never more tests
+--        size_has_k                       every partition has such a k
+--        empty_list_costs_none            of no rules: none, and no test
+--        bound_is_reached                 for every d, m and flags a list and a header reach d + k
 --
 -- The marked cases B1 to B12 are in `Cases.antt`; that two answers that a contract allows are equal is in `Determined.antt`.
 -- Assumes nothing.

@@ -140,7 +140,7 @@ fn arrive(
     tests: u16,
 ) -> Walked
     requires ready { Ready (listed shape list.now) n table.now }
-    requires s_lt_e { (s < e) × (e ≤ n) }
+    requires some_places { (s < e) × (e ≤ n) }
     ensures { result ≡ arrived_of (listed shape list.now) (view n shape.d table.now) header.now s e tests }
 {
     if e != s + 1 {

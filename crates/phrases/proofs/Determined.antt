@@ -4,107 +4,107 @@
 -- Assumes nothing.
 use Rattle.ranges.proofs.OneAnswer.{OneAnswer, OneRun}
 use Rattle.text.proofs.Determined.{place_one, bytes_one}
-use Rattle.phrases.proofs.say.put_spaced.Kinds as put-spaced-kinds
-use Rattle.phrases.proofs.say.put_spaced.Reads as put-spaced
-use Rattle.phrases.proofs.say.put_all.Kinds as put-all-kinds
-use Rattle.phrases.proofs.say.put_all.Reads as put_all_lem
-use Rattle.phrases.proofs.say.put_table.Kinds as put-table-kinds
-use Rattle.phrases.proofs.say.put_table.Reads as put-table
-use Rattle.phrases.proofs.say.put_bad.Kinds as put-bad-kinds
-use Rattle.phrases.proofs.say.put_bad.Reads as put-bad
-use Rattle.phrases.proofs.say.put_refused.Kinds as put-refused-kinds
-use Rattle.phrases.proofs.say.put_refused.Reads as Put-refused
-use Rattle.phrases.proofs.say.put_count.Kinds as put-count-kinds
-use Rattle.phrases.proofs.say.put_count.Reads as put_count
-use Rattle.phrases.proofs.say.put_bounds.Kinds as put-bounds-kinds
-use Rattle.phrases.proofs.say.put_bounds.Reads as put-bounds
-use Rattle.phrases.proofs.say.put_match.Kinds as put-match-kinds
-use Rattle.phrases.proofs.say.put_match.Reads as put-match
-use Rattle.phrases.proofs.say.put_pair.Kinds as put-pair-kinds
-use Rattle.phrases.proofs.say.put_pair.Reads as put-pair
-use Rattle.phrases.proofs.say.put_looked.Kinds as put-looked-kinds
-use Rattle.phrases.proofs.say.put_looked.Reads as put-looked
-use Rattle.phrases.proofs.say.put_spot.Kinds as put-spot-kinds
-use Rattle.phrases.proofs.say.put_spot.Reads as put-spot
-use Rattle.phrases.proofs.say.put_verdict.Kinds as put-verdict-kinds
-use Rattle.phrases.proofs.say.put_verdict.Reads as put-verdict
-use Rattle.phrases.proofs.say.put_part.Kinds as put-part-kinds
-use Rattle.phrases.proofs.say.put_part.Reads as put-part
+use Rattle.phrases.proofs.say.put_spaced.Kinds as put_spaced_kinds
+use Rattle.phrases.proofs.say.put_spaced.Reads as put_spaced_reads
+use Rattle.phrases.proofs.say.put_all.Kinds as put_all_kinds
+use Rattle.phrases.proofs.say.put_all.Reads as put_all_reads
+use Rattle.phrases.proofs.say.put_table.Kinds as put_table_kinds
+use Rattle.phrases.proofs.say.put_table.Reads as put_table_reads
+use Rattle.phrases.proofs.say.put_bad.Kinds as put_bad_kinds
+use Rattle.phrases.proofs.say.put_bad.Reads as put_bad_reads
+use Rattle.phrases.proofs.say.put_refused.Kinds as put_refused_kinds
+use Rattle.phrases.proofs.say.put_refused.Reads as put_refused_reads
+use Rattle.phrases.proofs.say.put_count.Kinds as put_count_kinds
+use Rattle.phrases.proofs.say.put_count.Reads as put_count_reads
+use Rattle.phrases.proofs.say.put_bounds.Kinds as put_bounds_kinds
+use Rattle.phrases.proofs.say.put_bounds.Reads as put_bounds_reads
+use Rattle.phrases.proofs.say.put_match.Kinds as put_match_kinds
+use Rattle.phrases.proofs.say.put_match.Reads as put_match_reads
+use Rattle.phrases.proofs.say.put_pair.Kinds as put_pair_kinds
+use Rattle.phrases.proofs.say.put_pair.Reads as put_pair_reads
+use Rattle.phrases.proofs.say.put_looked.Kinds as put_looked_kinds
+use Rattle.phrases.proofs.say.put_looked.Reads as put_looked_reads
+use Rattle.phrases.proofs.say.put_spot.Kinds as put_spot_kinds
+use Rattle.phrases.proofs.say.put_spot.Reads as put_spot_reads
+use Rattle.phrases.proofs.say.put_verdict.Kinds as put_verdict_kinds
+use Rattle.phrases.proofs.say.put_verdict.Reads as put_verdict_reads
+use Rattle.phrases.proofs.say.put_part.Kinds as put_part_kinds
+use Rattle.phrases.proofs.say.put_part.Reads as put_part_reads
 
-pub put_spaced_one : OneAnswer 1 put-spaced-kinds.ps put-spaced-kinds.r put-spaced.Learnt
+pub put_spaced_one : OneAnswer 1 put_spaced_kinds.ps put_spaced_kinds.r put_spaced_reads.Learnt
 put_spaced_one κs a x y e g p q = place_one p.puts q.puts
 
-pub put_spaced_bytes_one : OneRun 1 put-spaced-kinds.ps put-spaced-kinds.r put-spaced.Learnt (λ κs e. e.1.0.now)
+pub put_spaced_bytes_one : OneRun 1 put_spaced_kinds.ps put_spaced_kinds.r put_spaced_reads.Learnt (λ κs e. e.1.0.now)
 put_spaced_bytes_one κs a x y e g p q = bytes_one p.puts q.puts
 
-pub put_all_one : OneAnswer 2 put-all-kinds.ps put-all-kinds.r put_all_lem.Learnt
+pub put_all_one : OneAnswer 2 put_all_kinds.ps put_all_kinds.r put_all_reads.Learnt
 put_all_one κs a x y e g p q = place_one p.puts q.puts
 
-pub put_all_bytes_one : OneRun 2 put-all-kinds.ps put-all-kinds.r put_all_lem.Learnt (λ κs e. e.1.0.now)
+pub put_all_bytes_one : OneRun 2 put_all_kinds.ps put_all_kinds.r put_all_reads.Learnt (λ κs e. e.1.0.now)
 put_all_bytes_one κs a x y e g p q = bytes_one p.puts q.puts
 
-pub put_table_one : OneAnswer 2 put-table-kinds.ps put-table-kinds.r put-table.Learnt
+pub put_table_one : OneAnswer 2 put_table_kinds.ps put_table_kinds.r put_table_reads.Learnt
 put_table_one κs a x y e g p q = place_one p.puts q.puts
 
-pub put_table_bytes_one : OneRun 2 put-table-kinds.ps put-table-kinds.r put-table.Learnt (λ κs e. e.1.0.now)
+pub put_table_bytes_one : OneRun 2 put_table_kinds.ps put_table_kinds.r put_table_reads.Learnt (λ κs e. e.1.0.now)
 put_table_bytes_one κs a x y e g p q = bytes_one p.puts q.puts
 
-pub put_bad_one : OneAnswer 1 put-bad-kinds.ps put-bad-kinds.r put-bad.Learnt
+pub put_bad_one : OneAnswer 1 put_bad_kinds.ps put_bad_kinds.r put_bad_reads.Learnt
 put_bad_one κs a x y e g p q = place_one p.puts q.puts
 
-pub put_bad_bytes_one : OneRun 1 put-bad-kinds.ps put-bad-kinds.r put-bad.Learnt (λ κs e. e.0.now)
+pub put_bad_bytes_one : OneRun 1 put_bad_kinds.ps put_bad_kinds.r put_bad_reads.Learnt (λ κs e. e.0.now)
 put_bad_bytes_one κs a x y e g p q = bytes_one p.puts q.puts
 
-pub put_refused_one : OneAnswer 1 put-refused-kinds.ps put-refused-kinds.r Put-refused.Learnt
+pub put_refused_one : OneAnswer 1 put_refused_kinds.ps put_refused_kinds.r put_refused_reads.Learnt
 put_refused_one κs a x y e g p q = place_one p.puts q.puts
 
-pub put_refused_bytes_one : OneRun 1 put-refused-kinds.ps put-refused-kinds.r Put-refused.Learnt (λ κs e. e.1.0.now)
+pub put_refused_bytes_one : OneRun 1 put_refused_kinds.ps put_refused_kinds.r put_refused_reads.Learnt (λ κs e. e.1.0.now)
 put_refused_bytes_one κs a x y e g p q = bytes_one p.puts q.puts
 
-pub put_count_one : OneAnswer 1 put-count-kinds.ps put-count-kinds.r put_count.Learnt
+pub put_count_one : OneAnswer 1 put_count_kinds.ps put_count_kinds.r put_count_reads.Learnt
 put_count_one κs a x y e g p q = place_one p.puts q.puts
 
-pub put_count_bytes_one : OneRun 1 put-count-kinds.ps put-count-kinds.r put_count.Learnt (λ κs e. e.1.0.now)
+pub put_count_bytes_one : OneRun 1 put_count_kinds.ps put_count_kinds.r put_count_reads.Learnt (λ κs e. e.1.0.now)
 put_count_bytes_one κs a x y e g p q = bytes_one p.puts q.puts
 
-pub put_bounds_one : OneAnswer 1 put-bounds-kinds.ps put-bounds-kinds.r put-bounds.Learnt
+pub put_bounds_one : OneAnswer 1 put_bounds_kinds.ps put_bounds_kinds.r put_bounds_reads.Learnt
 put_bounds_one κs a x y e g p q = place_one p.puts q.puts
 
-pub put_bounds_bytes_one : OneRun 1 put-bounds-kinds.ps put-bounds-kinds.r put-bounds.Learnt (λ κs e. e.1.0.now)
+pub put_bounds_bytes_one : OneRun 1 put_bounds_kinds.ps put_bounds_kinds.r put_bounds_reads.Learnt (λ κs e. e.1.0.now)
 put_bounds_bytes_one κs a x y e g p q = bytes_one p.puts q.puts
 
-pub put_match_one : OneAnswer 1 put-match-kinds.ps put-match-kinds.r put-match.Learnt
+pub put_match_one : OneAnswer 1 put_match_kinds.ps put_match_kinds.r put_match_reads.Learnt
 put_match_one κs a x y e g p q = place_one p.puts q.puts
 
-pub put_match_bytes_one : OneRun 1 put-match-kinds.ps put-match-kinds.r put-match.Learnt (λ κs e. e.1.0.now)
+pub put_match_bytes_one : OneRun 1 put_match_kinds.ps put_match_kinds.r put_match_reads.Learnt (λ κs e. e.1.0.now)
 put_match_bytes_one κs a x y e g p q = bytes_one p.puts q.puts
 
-pub put_pair_one : OneAnswer 1 put-pair-kinds.ps put-pair-kinds.r put-pair.Learnt
+pub put_pair_one : OneAnswer 1 put_pair_kinds.ps put_pair_kinds.r put_pair_reads.Learnt
 put_pair_one κs a x y e g p q = place_one p.puts q.puts
 
-pub put_pair_bytes_one : OneRun 1 put-pair-kinds.ps put-pair-kinds.r put-pair.Learnt (λ κs e. e.1.0.now)
+pub put_pair_bytes_one : OneRun 1 put_pair_kinds.ps put_pair_kinds.r put_pair_reads.Learnt (λ κs e. e.1.0.now)
 put_pair_bytes_one κs a x y e g p q = bytes_one p.puts q.puts
 
-pub put_looked_one : OneAnswer 1 put-looked-kinds.ps put-looked-kinds.r put-looked.Learnt
+pub put_looked_one : OneAnswer 1 put_looked_kinds.ps put_looked_kinds.r put_looked_reads.Learnt
 put_looked_one κs a x y e g p q = place_one p.puts q.puts
 
-pub put_looked_bytes_one : OneRun 1 put-looked-kinds.ps put-looked-kinds.r put-looked.Learnt (λ κs e. e.1.0.now)
+pub put_looked_bytes_one : OneRun 1 put_looked_kinds.ps put_looked_kinds.r put_looked_reads.Learnt (λ κs e. e.1.0.now)
 put_looked_bytes_one κs a x y e g p q = bytes_one p.puts q.puts
 
-pub put_spot_one : OneAnswer 1 put-spot-kinds.ps put-spot-kinds.r put-spot.Learnt
+pub put_spot_one : OneAnswer 1 put_spot_kinds.ps put_spot_kinds.r put_spot_reads.Learnt
 put_spot_one κs a x y e g p q = place_one p.puts q.puts
 
-pub put_spot_bytes_one : OneRun 1 put-spot-kinds.ps put-spot-kinds.r put-spot.Learnt (λ κs e. e.1.0.now)
+pub put_spot_bytes_one : OneRun 1 put_spot_kinds.ps put_spot_kinds.r put_spot_reads.Learnt (λ κs e. e.1.0.now)
 put_spot_bytes_one κs a x y e g p q = bytes_one p.puts q.puts
 
-pub put_verdict_one : OneAnswer 1 put-verdict-kinds.ps put-verdict-kinds.r put-verdict.Learnt
+pub put_verdict_one : OneAnswer 1 put_verdict_kinds.ps put_verdict_kinds.r put_verdict_reads.Learnt
 put_verdict_one κs a x y e g p q = place_one p.puts q.puts
 
-pub put_verdict_bytes_one : OneRun 1 put-verdict-kinds.ps put-verdict-kinds.r put-verdict.Learnt (λ κs e. e.1.0.now)
+pub put_verdict_bytes_one : OneRun 1 put_verdict_kinds.ps put_verdict_kinds.r put_verdict_reads.Learnt (λ κs e. e.1.0.now)
 put_verdict_bytes_one κs a x y e g p q = bytes_one p.puts q.puts
 
-pub put_part_one : OneAnswer 1 put-part-kinds.ps put-part-kinds.r put-part.Learnt
+pub put_part_one : OneAnswer 1 put_part_kinds.ps put_part_kinds.r put_part_reads.Learnt
 put_part_one κs a x y e g p q = place_one p.puts q.puts
 
-pub put_part_bytes_one : OneRun 1 put-part-kinds.ps put-part-kinds.r put-part.Learnt (λ κs e. e.1.0.now)
+pub put_part_bytes_one : OneRun 1 put_part_kinds.ps put_part_kinds.r put_part_reads.Learnt (λ κs e. e.1.0.now)
 put_part_bytes_one κs a x y e g p q = bytes_one p.puts q.puts

@@ -4,18 +4,18 @@
 -- Assumes nothing.
 use mathlib.Core.Path.{sym, ◌∙◌}
 use Rattle.ranges.proofs.OneAnswer.{OneAnswer}
-use Rattle.programs.proofs.bytes.same.Kinds as same-kinds
-use Rattle.programs.proofs.bytes.same.Reads as same
-use Rattle.programs.proofs.status.ended_by.Kinds as ended-by-kinds
-use Rattle.programs.proofs.status.ended_by.Reads as Ended-by
-use Rattle.programs.proofs.status.status_digit.Kinds as status-digit-kinds
-use Rattle.programs.proofs.status.status_digit.Reads as status-digit
+use Rattle.programs.proofs.bytes.same.Kinds as same_kinds
+use Rattle.programs.proofs.bytes.same.Reads as same_reads
+use Rattle.programs.proofs.status.ended_by.Kinds as ended_by_kinds
+use Rattle.programs.proofs.status.ended_by.Reads as ended_by_reads
+use Rattle.programs.proofs.status.status_digit.Kinds as status_digit_kinds
+use Rattle.programs.proofs.status.status_digit.Reads as status_digit_reads
 
-pub ended_by_one : OneAnswer 0 ended-by-kinds.ps ended-by-kinds.r Ended-by.Learnt
+pub ended_by_one : OneAnswer 0 ended_by_kinds.ps ended_by_kinds.r ended_by_reads.Learnt
 ended_by_one κs a x y e g p q = p ∙ sym q
 
-pub status_digit_one : OneAnswer 0 status-digit-kinds.ps status-digit-kinds.r status-digit.Learnt
+pub status_digit_one : OneAnswer 0 status_digit_kinds.ps status_digit_kinds.r status_digit_reads.Learnt
 status_digit_one κs a x y e g p q = p ∙ sym q
 
-pub same_one : OneAnswer 2 same-kinds.ps same-kinds.r same.Learnt
+pub same_one : OneAnswer 2 same_kinds.ps same_kinds.r same_reads.Learnt
 same_one κs a x y e g p q = p ∙ sym q

@@ -1,9 +1,9 @@
 -- What the prefixes of a range are (T3): they start at low, each starts where the last one ended, and the last ends at high; so each
 -- number of the range lies in exactly one, and no other number lies in any. Each turns back into its block, and each block is the largest.
 --     prefixes_ind           whatever holds of an empty range, and of a range if it holds past its first block, holds of all prefixes
---     Chain, prefixes-chain  the blocks follow each other from low to the end
+--     Chain, prefixes_chain  the blocks follow each other from low to the end
 --     holders, chain_one, chain_before, chain_past      how many prefixes hold a number: one inside, none outside
---     Each, prefixes-turn-back, prefixes-largest
+--     Each, prefixes_turn_back, prefixes_largest
 -- Assumes nothing.
 use Prim.Native.Nat.{ℕ, zero, suc, ◌+◌, ◌-◌, ◌%◌, ◌^◌, ◌≤◌, ◌<◌}
 use mathlib.Core.Bool.{Bool, true, false}

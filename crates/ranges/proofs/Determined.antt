@@ -4,72 +4,72 @@
 -- Assumes nothing.
 use mathlib.Core.Path.{sym, ◌∙◌}
 use Rattle.ranges.proofs.OneAnswer.{OneAnswer, OneRun}
-use Rattle.ranges.proofs.refusal.refuse.Kinds as refuse-kinds
-use Rattle.ranges.proofs.refusal.refuse.Reads as refuse
-use Rattle.ranges.proofs.spot.spot_of.Kinds as spot-of-kinds
-use Rattle.ranges.proofs.spot.spot_of.Reads as spot_of_lem
-use Rattle.ranges.proofs.side.side_of.Kinds as side-of-kinds
-use Rattle.ranges.proofs.side.side_of.Reads as side-of
-use Rattle.ranges.proofs.side.closed.Kinds as closed-kinds
-use Rattle.ranges.proofs.side.closed.Reads as closed
-use Rattle.ranges.proofs.side.range_of.Kinds as range-of-kinds
-use Rattle.ranges.proofs.side.range_of.Reads as range-of
-use Rattle.ranges.proofs.side.is_below.Kinds as is-below-kinds
-use Rattle.ranges.proofs.side.is_below.Reads as is_below
-use Rattle.ranges.proofs.side.is_past.Kinds as is-past-kinds
-use Rattle.ranges.proofs.side.is_past.Reads as is-past
-use Rattle.ranges.proofs.side.is_void.Kinds as is-void-kinds
-use Rattle.ranges.proofs.side.is_void.Reads as is-void
-use Rattle.ranges.proofs.side.meets.Kinds as meets-kinds
-use Rattle.ranges.proofs.side.meets.Reads as meets
-use Rattle.ranges.proofs.standing.is_under.Kinds as is-under-kinds
-use Rattle.ranges.proofs.standing.is_under.Reads as is-under
-use Rattle.ranges.proofs.standing.same_ends.Kinds as same-ends-kinds
-use Rattle.ranges.proofs.standing.same_ends.Reads as same_ends
-use Rattle.ranges.proofs.prefix.prefix_to_range.Kinds as prefix-to-range-kinds
-use Rattle.ranges.proofs.prefix.prefix_to_range.Reads as prefix-to-range
-use Rattle.ranges.proofs.expand.range_to_prefixes.Kinds as range-to-prefixes-kinds
-use Rattle.ranges.proofs.expand.range_to_prefixes.Reads as range-to-prefixes
+use Rattle.ranges.proofs.refusal.refuse.Kinds as refuse_kinds
+use Rattle.ranges.proofs.refusal.refuse.Reads as refuse_reads
+use Rattle.ranges.proofs.spot.spot_of.Kinds as spot_of_kinds
+use Rattle.ranges.proofs.spot.spot_of.Reads as spot_of_reads
+use Rattle.ranges.proofs.side.side_of.Kinds as side_of_kinds
+use Rattle.ranges.proofs.side.side_of.Reads as side_of_reads
+use Rattle.ranges.proofs.side.closed.Kinds as closed_kinds
+use Rattle.ranges.proofs.side.closed.Reads as closed_reads
+use Rattle.ranges.proofs.side.range_of.Kinds as range_of_kinds
+use Rattle.ranges.proofs.side.range_of.Reads as range_of_reads
+use Rattle.ranges.proofs.side.is_below.Kinds as is_below_kinds
+use Rattle.ranges.proofs.side.is_below.Reads as is_below_reads
+use Rattle.ranges.proofs.side.is_past.Kinds as is_past_kinds
+use Rattle.ranges.proofs.side.is_past.Reads as is_past_reads
+use Rattle.ranges.proofs.side.is_void.Kinds as is_void_kinds
+use Rattle.ranges.proofs.side.is_void.Reads as is_void_reads
+use Rattle.ranges.proofs.side.meets.Kinds as meets_kinds
+use Rattle.ranges.proofs.side.meets.Reads as meets_reads
+use Rattle.ranges.proofs.standing.is_under.Kinds as is_under_kinds
+use Rattle.ranges.proofs.standing.is_under.Reads as is_under_reads
+use Rattle.ranges.proofs.standing.same_ends.Kinds as same_ends_kinds
+use Rattle.ranges.proofs.standing.same_ends.Reads as same_ends_reads
+use Rattle.ranges.proofs.prefix.prefix_to_range.Kinds as prefix_to_range_kinds
+use Rattle.ranges.proofs.prefix.prefix_to_range.Reads as prefix_to_range_reads
+use Rattle.ranges.proofs.expand.range_to_prefixes.Kinds as range_to_prefixes_kinds
+use Rattle.ranges.proofs.expand.range_to_prefixes.Reads as range_to_prefixes_reads
 
-pub refuse_one : OneAnswer 0 refuse-kinds.ps refuse-kinds.r refuse.Learnt
+pub refuse_one : OneAnswer 0 refuse_kinds.ps refuse_kinds.r refuse_reads.Learnt
 refuse_one κs a x y e g p q = p ∙ sym q
 
-pub spot_of_one : OneAnswer 0 spot-of-kinds.ps spot-of-kinds.r spot_of_lem.Learnt
+pub spot_of_one : OneAnswer 0 spot_of_kinds.ps spot_of_kinds.r spot_of_reads.Learnt
 spot_of_one κs a x y e g p q = p ∙ sym q
 
-pub side_of_one : OneAnswer 0 side-of-kinds.ps side-of-kinds.r side-of.Learnt
+pub side_of_one : OneAnswer 0 side_of_kinds.ps side_of_kinds.r side_of_reads.Learnt
 side_of_one κs a x y e g p q = p ∙ sym q
 
-pub closed_one : OneAnswer 0 closed-kinds.ps closed-kinds.r closed.Learnt
+pub closed_one : OneAnswer 0 closed_kinds.ps closed_kinds.r closed_reads.Learnt
 closed_one κs a x y e g p q = p ∙ sym q
 
-pub range_of_one : OneAnswer 0 range-of-kinds.ps range-of-kinds.r range-of.Learnt
+pub range_of_one : OneAnswer 0 range_of_kinds.ps range_of_kinds.r range_of_reads.Learnt
 range_of_one κs a x y e g p q = p ∙ sym q
 
-pub is_below_one : OneAnswer 0 is-below-kinds.ps is-below-kinds.r is_below.Learnt
+pub is_below_one : OneAnswer 0 is_below_kinds.ps is_below_kinds.r is_below_reads.Learnt
 is_below_one κs a x y e g p q = p ∙ sym q
 
-pub is_past_one : OneAnswer 0 is-past-kinds.ps is-past-kinds.r is-past.Learnt
+pub is_past_one : OneAnswer 0 is_past_kinds.ps is_past_kinds.r is_past_reads.Learnt
 is_past_one κs a x y e g p q = p ∙ sym q
 
-pub is_void_one : OneAnswer 0 is-void-kinds.ps is-void-kinds.r is-void.Learnt
+pub is_void_one : OneAnswer 0 is_void_kinds.ps is_void_kinds.r is_void_reads.Learnt
 is_void_one κs a x y e g p q = p ∙ sym q
 
-pub meets_one : OneAnswer 0 meets-kinds.ps meets-kinds.r meets.Learnt
+pub meets_one : OneAnswer 0 meets_kinds.ps meets_kinds.r meets_reads.Learnt
 meets_one κs a x y e g p q = p ∙ sym q
 
-pub is_under_one : OneAnswer 0 is-under-kinds.ps is-under-kinds.r is-under.Learnt
+pub is_under_one : OneAnswer 0 is_under_kinds.ps is_under_kinds.r is_under_reads.Learnt
 is_under_one κs a x y e g p q = p ∙ sym q
 
-pub same_ends_one : OneAnswer 0 same-ends-kinds.ps same-ends-kinds.r same_ends.Learnt
+pub same_ends_one : OneAnswer 0 same_ends_kinds.ps same_ends_kinds.r same_ends_reads.Learnt
 same_ends_one κs a x y e g p q = p ∙ sym q
 
-pub prefix_to_range_one : OneAnswer 0 prefix-to-range-kinds.ps prefix-to-range-kinds.r prefix-to-range.Learnt
+pub prefix_to_range_one : OneAnswer 0 prefix_to_range_kinds.ps prefix_to_range_kinds.r prefix_to_range_reads.Learnt
 prefix_to_range_one κs a x y e g p q = p ∙ sym q
 
-pub range_to_prefixes_one : OneAnswer 1 range-to-prefixes-kinds.ps range-to-prefixes-kinds.r range-to-prefixes.Learnt
+pub range_to_prefixes_one : OneAnswer 1 range_to_prefixes_kinds.ps range_to_prefixes_kinds.r range_to_prefixes_reads.Learnt
 range_to_prefixes_one κs a x y e g p q = p.0 ∙ sym q.0
 
 -- the run afterwards is one too
-pub range_to_prefixes_run_one : OneRun 1 range-to-prefixes-kinds.ps range-to-prefixes-kinds.r range-to-prefixes.Learnt (λ κs e. e.1.1.1.0.now)
+pub range_to_prefixes_run_one : OneRun 1 range_to_prefixes_kinds.ps range_to_prefixes_kinds.r range_to_prefixes_reads.Learnt (λ κs e. e.1.1.1.0.now)
 range_to_prefixes_run_one κs a x y e g p q = p.1 ∙ sym q.1

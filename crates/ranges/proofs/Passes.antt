@@ -1,6 +1,6 @@
 -- The two passes over a range's prefixes on plain values: the one that counts them and the one that writes them.
---     Left, left-start, left-more, left_end            counting: so many are passed, and these are left
---     Written, same-long, written_start, written-more, written-end      writing: these are written, and these are left; the run keeps its length
+--     Left, left_start, left_more, left_end            counting: so many are passed, and these are left
+--     Written, same_long, written_start, written_more, written_end      writing: these are written, and these are left; the run keeps its length
 -- Each turn takes the largest block off what is left (`Expansion.antt`), so the number at which it starts rises by one at least.
 -- Assumes nothing.
 use Prim.Native.Nat.{ℕ, suc, ◌+◌, ◌-◌, ◌*◌, ◌^◌, ◌≤◌, ◌<◌}

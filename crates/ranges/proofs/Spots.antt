@@ -1,7 +1,7 @@
 -- Laws of the single range test (`specs/Spots.antt`).
 --     Sits                  the six outcomes, with the facts that lead to each
 --     spot_is, sits         the facts of an outcome give it; the outcome has its facts. So exactly one of the six holds
---     Edge, end-iff         at an end, as a test and as facts
+--     Edge, end_iff         at an end, as a test and as facts
 --     both_ends_iff         at both ends, likewise
 -- Assumes nothing.
 use Prim.Native.Nat.{ℕ, ◌+◌, ◌≤◌, ◌<◌}

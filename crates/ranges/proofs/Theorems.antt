@@ -1,25 +1,25 @@
 -- The headline statements of layer 1, in the order of DESIGN's list. What the functions return is their contract; these say what that means.
 --     T1  prefix_holds             the range of a prefix is the numbers that agree with it in its first bits
---         prefix-stands            a prefix that meets neither 9 nor 10 has this range
---         prefix-9-iff             a prefix is refused by 9 exactly when the width is not 1 to 32
---         prefix-10-iff            by 10 exactly when the width is 1 to 32, and the length > width, the value needs more than width bits, or a
+--         prefix_stands            a prefix that meets neither 9 nor 10 has this range
+--         prefix_9_iff             a prefix is refused by 9 exactly when the width is not 1 to 32
+--         prefix_10_iff            by 10 exactly when the width is 1 to 32, and the length > width, the value needs more than width bits, or a
 --                                  bit below the prefix is set
---     T2  run-kept                 a refusal leaves the run as lent
+--     T2  run_kept                 a refusal leaves the run as lent
 --         run_past                 numbers past the last pair stay
---     T3  covers-once              each number of a range lies in exactly one of its prefixes
---         covers-no-other          no other number lies in any
---         turn-back                each prefix turns back into its block
---         blocks-are-largest       each block is the largest aligned one that stays in the range
---     T4  at-most-2w-2-prefixes    at most 2w - 2 prefixes for w ≥ 2
---         one-prefix-at-width-1    exactly one for w = 1
---     T5  side-says                the three outcomes of the range test, and what each says
---     W2  spot-says                the six outcomes that tell a number at an end from one between, and what each says
---         spot-one                 what one of them says holds of no number that has another
+--     T3  covers_once              each number of a range lies in exactly one of its prefixes
+--         covers_no_other          no other number lies in any
+--         turn_back                each prefix turns back into its block
+--         blocks_are_largest       each block is the largest aligned one that stays in the range
+--     T4  at_most_2w_2_prefixes    at most 2w - 2 prefixes for w ≥ 2
+--         one_prefix_at_width_1    exactly one for w = 1
+--     T5  side_says                the three outcomes of the range test, and what each says
+--     W2  spot_says                the six outcomes that tell a number at an end from one between, and what each says
+--         spot_one                 what one of them says holds of no number that has another
 --         both_iff                 at both ends exactly when low, the number and the last number of the range are one
---     W8  due-day-is-past          a rule's dates do not hold its high, the due day
---         last-day-is-inside       they hold the day before it, which is an end
---         top-in-no-date           no rule's dates hold 4294967295
---         void-iff                 a rule's range holds no number exactly when low > high, of dates when low ≥ high
+--     W8  due_day_is_past          a rule's dates do not hold its high, the due day
+--         last_day_is_inside       they hold the day before it, which is an end
+--         top_in_no_date           no rule's dates hold 4294967295
+--         void_iff                 a rule's range holds no number exactly when low > high, of dates when low ≥ high
 -- Assumes nothing.
 use Prim.Native.Nat.{ℕ, ◌+◌, ◌-◌, ◌*◌, ◌/◌, ◌%◌, ◌^◌, ◌≤◌, ◌<◌}
 use mathlib.Core.Bool.{Bool, true}

@@ -48,7 +48,7 @@ fn count_prefixes(width: u32, low: u64, high: u64) -> usize
 // the last pair stays.
 fn write_prefixes(width: u32, low: u64, high: u64, out: &mut [u32])
     requires ranged { Ranged width low high }
-    requires high_in_bounds { length (prefixes_of width low high) * 2 ≤ length out.old }
+    requires room { length (prefixes_of width low high) * 2 ≤ length out.old }
     ensures { out.new ≡ written (prefixes_of width low high) out.old }
 {
     let mut at = low;

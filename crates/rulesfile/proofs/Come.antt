@@ -1,6 +1,6 @@
 -- Lines of a rules file, judged one after the other (`specs/Bytes.antt`). Each adds its numbers to the list after those of the
 -- lines before it, until the first that has a flaw; the first line sets the number of cells of the others.
---     Come, Stood, own-fine        what all lines of a file come to: the first flaw, and where there is none the list
+--     Come, Stood, own_fine        what all lines of a file come to: the first flaw, and where there is none the list
 --     come                         the lines of a file
 --     rules-read                   the bytes of a file
 -- Assumes nothing.

@@ -11,20 +11,20 @@ use Rattle.text.specs.Judging.{judged}
 use Rattle.rulesfile.specs.Bytes.{rules_in_file}
 use Rattle.rulesfile.specs.declared.file.RulesSoFar.{RulesSoFar}
 use Rattle.rulesfile.specs.declared.file.RulesFile.{RulesFile}
-use Rattle.rulesfile.proofs.file.rules_start.Kinds as rules-start-kinds
-use Rattle.rulesfile.proofs.file.rules_start.Reads as rules-start
-use Rattle.rulesfile.proofs.file.rules_piece.Kinds as rules-piece-kinds
-use Rattle.rulesfile.proofs.file.rules_piece.Reads as rules-piece
-use Rattle.rulesfile.proofs.file.rules_end.Kinds as rules-end-kinds
-use Rattle.rulesfile.proofs.file.rules_end.Reads as rules-end
-use Rattle.rulesfile.proofs.table.rules_shape.Kinds as rules-shape-kinds
-use Rattle.rulesfile.proofs.table.rules_shape.Reads as rules-shape
-use Rattle.rulesfile.proofs.table.rules_length.Kinds as rules-length-kinds
-use Rattle.rulesfile.proofs.table.rules_length.Reads as rules-length
-use Rattle.rulesfile.proofs.table.rules_room.Kinds as rules-room-kinds
-use Rattle.rulesfile.proofs.table.rules_room.Reads as rules-room
-use Rattle.rulesfile.proofs.table.rules_table.Kinds as rules-table-kinds
-use Rattle.rulesfile.proofs.table.rules_table.Reads as rules-table
+use Rattle.rulesfile.proofs.file.rules_start.Kinds as rules_start_kinds
+use Rattle.rulesfile.proofs.file.rules_start.Reads as rules_start_reads
+use Rattle.rulesfile.proofs.file.rules_piece.Kinds as rules_piece_kinds
+use Rattle.rulesfile.proofs.file.rules_piece.Reads as rules_piece_reads
+use Rattle.rulesfile.proofs.file.rules_end.Kinds as rules_end_kinds
+use Rattle.rulesfile.proofs.file.rules_end.Reads as rules_end_reads
+use Rattle.rulesfile.proofs.table.rules_shape.Kinds as rules_shape_kinds
+use Rattle.rulesfile.proofs.table.rules_shape.Reads as rules_shape_reads
+use Rattle.rulesfile.proofs.table.rules_length.Kinds as rules_length_kinds
+use Rattle.rulesfile.proofs.table.rules_length.Reads as rules_length_reads
+use Rattle.rulesfile.proofs.table.rules_room.Kinds as rules_room_kinds
+use Rattle.rulesfile.proofs.table.rules_room.Reads as rules_room_reads
+use Rattle.rulesfile.proofs.table.rules_table.Kinds as rules_table_kinds
+use Rattle.rulesfile.proofs.table.rules_table.Reads as rules_table_reads
 
 -- ---- what has been read of a file, and the list
 module _ {f h : RulesFile} {list list' : List ℕ} (same : rules_in_file f list ≡ rules_in_file h list') where
@@ -42,35 +42,35 @@ module _ {r s : RulesSoFar} {list list' : List ℕ} (same : judged r list ≡ ju
   left_alike = ap (λ x. x.run) same
 
 -- ---- file
-pub rules_start_one : OneAnswer 0 rules-start-kinds.ps rules-start-kinds.r rules-start.Learnt
+pub rules_start_one : OneAnswer 0 rules_start_kinds.ps rules_start_kinds.r rules_start_reads.Learnt
 rules_start_one κs a x y e g p q = p ∙ sym q
 
-pub rules_piece_one : OneAnswer 2 rules-piece-kinds.ps rules-piece-kinds.r rules-piece.Learnt
+pub rules_piece_one : OneAnswer 2 rules_piece_kinds.ps rules_piece_kinds.r rules_piece_reads.Learnt
 rules_piece_one κs a x y e g p q = file_alike (p ∙ sym q)
 
 -- the list afterwards is one too
-pub rules_piece_list_one : OneRun 2 rules-piece-kinds.ps rules-piece-kinds.r rules-piece.Learnt (λ κs e. e.1.1.0.now)
+pub rules_piece_list_one : OneRun 2 rules_piece_kinds.ps rules_piece_kinds.r rules_piece_reads.Learnt (λ κs e. e.1.1.0.now)
 rules_piece_list_one κs a x y e g p q = list_alike (p ∙ sym q)
 
-pub rules_end_one : OneAnswer 1 rules-end-kinds.ps rules-end-kinds.r rules-end.Learnt
+pub rules_end_one : OneAnswer 1 rules_end_kinds.ps rules_end_kinds.r rules_end_reads.Learnt
 rules_end_one κs a x y e g p q = rules-alike (p ∙ sym q)
 
-pub rules_end_list_one : OneRun 1 rules-end-kinds.ps rules-end-kinds.r rules-end.Learnt (λ κs e. e.1.0.now)
+pub rules_end_list_one : OneRun 1 rules_end_kinds.ps rules_end_kinds.r rules_end_reads.Learnt (λ κs e. e.1.0.now)
 rules_end_list_one κs a x y e g p q = left_alike (p ∙ sym q)
 
 -- ---- table
-pub rules_shape_one : OneAnswer 0 rules-shape-kinds.ps rules-shape-kinds.r rules-shape.Learnt
+pub rules_shape_one : OneAnswer 0 rules_shape_kinds.ps rules_shape_kinds.r rules_shape_reads.Learnt
 rules_shape_one κs a x y e g p q = p ∙ sym q
 
-pub rules_length_one : OneAnswer 1 rules-length-kinds.ps rules-length-kinds.r rules-length.Learnt
+pub rules_length_one : OneAnswer 1 rules_length_kinds.ps rules_length_kinds.r rules_length_reads.Learnt
 rules_length_one κs a x y e g p q = p ∙ sym q
 
-pub rules_room_one : OneAnswer 1 rules-room-kinds.ps rules-room-kinds.r rules-room.Learnt
+pub rules_room_one : OneAnswer 1 rules_room_kinds.ps rules_room_kinds.r rules_room_reads.Learnt
 rules_room_one κs a x y e g p q = p ∙ sym q
 
-pub rules_table_one : OneAnswer 2 rules-table-kinds.ps rules-table-kinds.r rules-table.Learnt
+pub rules_table_one : OneAnswer 2 rules_table_kinds.ps rules_table_kinds.r rules_table_reads.Learnt
 rules_table_one κs a x y e g p q = p.finds ∙ sym q.finds
 
 -- the run for the table afterwards is one too
-pub rules_table_run_one : OneRun 2 rules-table-kinds.ps rules-table-kinds.r rules-table.Learnt (λ κs e. e.1.1.0.now)
+pub rules_table_run_one : OneRun 2 rules_table_kinds.ps rules_table_kinds.r rules_table_reads.Learnt (λ κs e. e.1.1.0.now)
 rules_table_run_one κs a x y e g p q = p.leaves ∙ sym q.leaves

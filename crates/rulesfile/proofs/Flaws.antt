@@ -2,7 +2,7 @@
 --     number_none, number_some                                             which number a flaw has
 --     width_odd, width_wide, width_narrow                                  the flaw of the first line's width
 --     line_many, line_feed, line_bad, line_first, line_same, line_other    the flaw of a line
---     Fine, fine-line, even-first                                          a line without flaw
+--     Fine, fine_line, even_first                                          a line without flaw
 --     first_some, first-none, first_fine                                   the first of two flaws
 -- Assumes nothing.
 use Prim.Native.Nat.{ℕ, ◌+◌, ◌%◌, ◌≤◌, ◌<◌}

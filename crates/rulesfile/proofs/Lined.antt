@@ -3,7 +3,7 @@
 --     lines_stay                      after a flaw
 --     lines_long                      the run keeps its length
 --     line_flawed                     a line with a flaw
---     LineStands, line-stands         one without
+--     LineStands, line_stands         one without
 --     cells_some, line_even           how many cells a line has
 -- Assumes nothing.
 use Prim.Native.Nat.{ℕ, ◌+◌, ◌*◌, ◌%◌, ◌≤◌, ◌<◌}

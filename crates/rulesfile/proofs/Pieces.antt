@@ -3,7 +3,7 @@
 -- one who reads on would know.
 --     bytes_kept, end_kept, rest_kept          after a flaw: bytes, the file's end, and both
 --     bytes_long, end_long, pieces_long        the run keeps its length
---     Alike, pieces-alike                      who stops at a flaw, and who reads on
+--     Alike, pieces_alike                      who stops at a flaw, and who reads on
 --     pieces_read                              the pieces of a file
 -- Assumes nothing.
 use Prim.Native.Nat.{ℕ}

@@ -56,7 +56,7 @@ fn number_at(list: &[u32], at: usize) -> u32
 // Gives the flaw of a rule whose low is above its high, in a field.
 fn void_flaw(shape: Shape, list: &[u32], x: Refusal) -> Flaw
     requires d_bound { shape.d < 65536 }
-    requires at_bound { (x.at < 65536) × (x.then < 65536) }
+    requires place_fits { (x.at < 65536) × (x.then < 65536) }
     ensures { result ≡ flaw_at (listed shape list.now) x }
 {
     let rule = x.at as u16;

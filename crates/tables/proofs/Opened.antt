@@ -2,7 +2,7 @@
 --     opening_n, opening-d, opening_b, opening-first, opening_last      the tests in their order
 --     reads_n, reads_d, reads_b, reads_first, reads_last                the same, as the code reads them
 --     open_length, open_broken, open_stands                   5, 6 for the opening, none of 1, 2, 3, 5 and 6
---     Opened, opened, opened-told, opened-none                a list and a table that meet none of them
+--     Opened, opened, opened_told, opened_none                a list and a table that meet none of them
 --     open_few                                                the number of an opening's refusal is at most 6
 --     open_by_length, open_by_broken, open_by_stands          the refusals, as the code works them out
 -- Assumes nothing.

@@ -1,7 +1,7 @@
 -- Laws of the report on a partition (`specs/Report.antt`): its refusals, and what it answers where none applies.
 --     fault_starts, fault-least, fault-fine          6 for a partition
 --     report_7, report_part, seven_where               7, and what comes after it
---     Reported, reported, report-none                a list, a table and a partition that meet no refusal
+--     Reported, reported, report_none                a list, a table and a partition that meet no refusal
 --     report_by_7, report_by_part                    the refusals, as the code works them out
 --     reported_told, reported_few, reported_within, report_by_answer      the answer, as the code works it out
 --     report_answers                                 the answer

@@ -13,28 +13,28 @@ use Rattle.text.specs.Lines.{in_file_now, line_step, TookLine, TookLast}
 use Rattle.text.specs.Puts.{Put}
 use Rattle.text.specs.declared.line.Reader.{Reader}
 use Rattle.text.specs.declared.line.LineRead.{LineRead}
-use Rattle.text.proofs.cell.with_byte.Kinds as with-byte-kinds
-use Rattle.text.proofs.cell.with_byte.Reads as with_byte
-use Rattle.text.proofs.line.line_start.Kinds as line-start-kinds
-use Rattle.text.proofs.line.line_start.Reads as line-start
-use Rattle.text.proofs.line.reader_start.Kinds as reader-start-kinds
-use Rattle.text.proofs.line.reader_start.Reads as reader-start
-use Rattle.text.proofs.line.read_line.Kinds as read-line-kinds
-use Rattle.text.proofs.line.read_line.Reads as read-line
-use Rattle.text.proofs.line.end_line.Kinds as end-line-kinds
-use Rattle.text.proofs.line.end_line.Reads as end_line
-use Rattle.text.proofs.put.put_byte.Kinds as put-byte-kinds
-use Rattle.text.proofs.put.put_byte.Reads as put_byte
-use Rattle.text.proofs.put.put_text.Kinds as put-text-kinds
-use Rattle.text.proofs.put.put_text.Reads as put-text
-use Rattle.text.proofs.put.put_number.Kinds as put-number-kinds
-use Rattle.text.proofs.put.put_number.Reads as put-number
-use Rattle.text.proofs.row.row_start.Kinds as row-start-kinds
-use Rattle.text.proofs.row.row_start.Reads as row-start
-use Rattle.text.proofs.row.row_byte.Kinds as row-byte-kinds
-use Rattle.text.proofs.row.row_byte.Reads as row-byte
-use Rattle.text.proofs.row.row_next.Kinds as row-next-kinds
-use Rattle.text.proofs.row.row_next.Reads as row_next
+use Rattle.text.proofs.cell.with_byte.Kinds as with_byte_kinds
+use Rattle.text.proofs.cell.with_byte.Reads as with_byte_reads
+use Rattle.text.proofs.line.line_start.Kinds as line_start_kinds
+use Rattle.text.proofs.line.line_start.Reads as line_start_reads
+use Rattle.text.proofs.line.reader_start.Kinds as reader_start_kinds
+use Rattle.text.proofs.line.reader_start.Reads as reader_start_reads
+use Rattle.text.proofs.line.read_line.Kinds as read_line_kinds
+use Rattle.text.proofs.line.read_line.Reads as read_line_reads
+use Rattle.text.proofs.line.end_line.Kinds as end_line_kinds
+use Rattle.text.proofs.line.end_line.Reads as end_line_reads
+use Rattle.text.proofs.put.put_byte.Kinds as put_byte_kinds
+use Rattle.text.proofs.put.put_byte.Reads as put_byte_reads
+use Rattle.text.proofs.put.put_text.Kinds as put_text_kinds
+use Rattle.text.proofs.put.put_text.Reads as put_text_reads
+use Rattle.text.proofs.put.put_number.Kinds as put_number_kinds
+use Rattle.text.proofs.put.put_number.Reads as put_number_reads
+use Rattle.text.proofs.row.row_start.Kinds as row_start_kinds
+use Rattle.text.proofs.row.row_start.Reads as row_start_reads
+use Rattle.text.proofs.row.row_byte.Kinds as row_byte_kinds
+use Rattle.text.proofs.row.row_byte.Reads as row_byte_reads
+use Rattle.text.proofs.row.row_next.Kinds as row_next_kinds
+use Rattle.text.proofs.row.row_next.Reads as row_next_reads
 
 -- ---- bytes put, which crates above cite
 module _ {out : List ℕ} {at : ℕ} {bs after after' : List ℕ} {next next' : ℕ} (p : Put out at bs after next) (q : Put out at bs after' next') where
@@ -85,58 +85,58 @@ module _ {from : ℕ} {r : Reader} {run : List ℕ} {x y : LineRead} {after afte
   last_run_one = run_alike last_line_one
 
 -- ---- cell
-pub with_byte_one : OneAnswer 0 with-byte-kinds.ps with-byte-kinds.r with_byte.Learnt
+pub with_byte_one : OneAnswer 0 with_byte_kinds.ps with_byte_kinds.r with_byte_reads.Learnt
 with_byte_one κs a x y e g p q = p ∙ sym q
 
 -- ---- line
-pub line_start_one : OneAnswer 0 line-start-kinds.ps line-start-kinds.r line-start.Learnt
+pub line_start_one : OneAnswer 0 line_start_kinds.ps line_start_kinds.r line_start_reads.Learnt
 line_start_one κs a x y e g p q = p ∙ sym q
 
-pub reader_start_one : OneAnswer 0 reader-start-kinds.ps reader-start-kinds.r reader-start.Learnt
+pub reader_start_one : OneAnswer 0 reader_start_kinds.ps reader_start_kinds.r reader_start_reads.Learnt
 reader_start_one κs a x y e g p q = p ∙ sym q
 
-pub read_line_one : OneAnswer 2 read-line-kinds.ps read-line-kinds.r read-line.Learnt
+pub read_line_one : OneAnswer 2 read_line_kinds.ps read_line_kinds.r read_line_reads.Learnt
 read_line_one κs a x y e g p q = took_one p q
 
 -- the run of numbers afterwards is one too
-pub read_line_run_one : OneRun 2 read-line-kinds.ps read-line-kinds.r read-line.Learnt (λ κs e. e.1.1.1.0.now)
+pub read_line_run_one : OneRun 2 read_line_kinds.ps read_line_kinds.r read_line_reads.Learnt (λ κs e. e.1.1.1.0.now)
 read_line_run_one κs a x y e g p q = took_run_one p q
 
-pub end_line_one : OneAnswer 1 end-line-kinds.ps end-line-kinds.r end_line.Learnt
+pub end_line_one : OneAnswer 1 end_line_kinds.ps end_line_kinds.r end_line_reads.Learnt
 end_line_one κs a x y e g p q = last_one p q
 
-pub end_line_run_one : OneRun 1 end-line-kinds.ps end-line-kinds.r end_line.Learnt (λ κs e. e.1.1.0.now)
+pub end_line_run_one : OneRun 1 end_line_kinds.ps end_line_kinds.r end_line_reads.Learnt (λ κs e. e.1.1.0.now)
 end_line_run_one κs a x y e g p q = last_run_one p q
 
 -- ---- put, and the bytes afterwards
-pub put_byte_one : OneAnswer 1 put-byte-kinds.ps put-byte-kinds.r put_byte.Learnt
+pub put_byte_one : OneAnswer 1 put_byte_kinds.ps put_byte_kinds.r put_byte_reads.Learnt
 put_byte_one κs a x y e g p q = place_one p q
 
-pub put_byte_run_one : OneRun 1 put-byte-kinds.ps put-byte-kinds.r put_byte.Learnt (λ κs e. e.1.0.now)
+pub put_byte_run_one : OneRun 1 put_byte_kinds.ps put_byte_kinds.r put_byte_reads.Learnt (λ κs e. e.1.0.now)
 put_byte_run_one κs a x y e g p q = bytes_one p q
 
-pub put_text_one : OneAnswer 2 put-text-kinds.ps put-text-kinds.r put-text.Learnt
+pub put_text_one : OneAnswer 2 put_text_kinds.ps put_text_kinds.r put_text_reads.Learnt
 put_text_one κs a x y e g p q = place_one p q
 
-pub put_text_run_one : OneRun 2 put-text-kinds.ps put-text-kinds.r put-text.Learnt (λ κs e. e.1.0.now)
+pub put_text_run_one : OneRun 2 put_text_kinds.ps put_text_kinds.r put_text_reads.Learnt (λ κs e. e.1.0.now)
 put_text_run_one κs a x y e g p q = bytes_one p q
 
-pub put_number_one : OneAnswer 1 put-number-kinds.ps put-number-kinds.r put-number.Learnt
+pub put_number_one : OneAnswer 1 put_number_kinds.ps put_number_kinds.r put_number_reads.Learnt
 put_number_one κs a x y e g p q = place_one p q
 
-pub put_number_run_one : OneRun 1 put-number-kinds.ps put-number-kinds.r put-number.Learnt (λ κs e. e.1.0.now)
+pub put_number_run_one : OneRun 1 put_number_kinds.ps put_number_kinds.r put_number_reads.Learnt (λ κs e. e.1.0.now)
 put_number_run_one κs a x y e g p q = bytes_one p q
 
 -- ---- row
-pub row_start_one : OneAnswer 0 row-start-kinds.ps row-start-kinds.r row-start.Learnt
+pub row_start_one : OneAnswer 0 row_start_kinds.ps row_start_kinds.r row_start_reads.Learnt
 row_start_one κs a x y e g p q = p ∙ sym q
 
-pub row_byte_one : OneAnswer 0 row-byte-kinds.ps row-byte-kinds.r row-byte.Learnt
+pub row_byte_one : OneAnswer 0 row_byte_kinds.ps row_byte_kinds.r row_byte_reads.Learnt
 row_byte_one κs a x y e g p q = p ∙ sym q
 
-pub row_next_one : OneAnswer 1 row-next-kinds.ps row-next-kinds.r row_next.Learnt
+pub row_next_one : OneAnswer 1 row_next_kinds.ps row_next_kinds.r row_next_reads.Learnt
 row_next_one κs a x y e g p q = p.0 ∙ sym q.0
 
 -- the run of numbers afterwards is one too
-pub row_next_run_one : OneRun 1 row-next-kinds.ps row-next-kinds.r row_next.Learnt (λ κs e. e.1.1.0.now)
+pub row_next_run_one : OneRun 1 row_next_kinds.ps row_next_kinds.r row_next_reads.Learnt (λ κs e. e.1.1.0.now)
 row_next_run_one κs a x y e g p q = p.1 ∙ sym q.1

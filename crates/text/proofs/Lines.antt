@@ -2,7 +2,7 @@
 --     feed_here, feed_before              whether an LF has come
 --     line_ends_cell, line_takes          one byte of a line
 --     cell_ended_lem                          a cell's end
---     Going, going_start, going_more, going-ends, going-all               bytes to the end of the present line
+--     Going, going_start, going_more, going_ends, going_all               bytes to the end of the present line
 --     last_nothing, last_something, last_plain, last_lone                 the file's end
 --     line_is                             all bytes of a line
 -- Assumes nothing.

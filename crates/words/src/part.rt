@@ -112,7 +112,7 @@ pub fn table_ends(given: &[u32], more: usize) -> Ends
 // Writes numbers of 16 bits to a run of as many.
 pub(crate) fn narrow(numbers: &[u32], table: &mut [u16])
     requires table_len { length table.old ≡ length numbers.now }
-    requires numbers_value { all_narrow numbers.now ≡ true }
+    requires narrow_numbers { all_narrow numbers.now ≡ true }
     ensures { table.new ≡ numbers.now }
 {
     let mut i = 0;

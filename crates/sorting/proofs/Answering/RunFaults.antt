@@ -1,9 +1,9 @@
 -- Laws of the refusals of a choice and of a laying out (`specs/Brought.antt`): which of them a list, a run and a table meet.
 --     long_not, long_fine                            15 alone, as the code works it out
---     Choosable, choosable-iff, choose-long-iff      what meets none of 1, 2, 3, 4, 15; 15
+--     Choosable, choosable_iff, choose_long_iff      what meets none of 1, 2, 3, 4, 15; 15
 --     run_none_iff                                   a run that meets none of 15, 16, 17, 18 has one number for each rule and is a choice
---     Layable, layable-iff, lay-first                what meets none of 1, 2, 3, 4, 5, 15, 16, 17, 18; what meets one of 1 to 5
---     Fits, lay-long-iff, lay-number-iff, lay-empty-iff, lay-clash-iff      15, 16, 17 and 18 of a laying out
+--     Layable, layable_iff, lay_first                what meets none of 1, 2, 3, 4, 5, 15, 16, 17, 18; what meets one of 1 to 5
+--     Fits, lay_long_iff, lay_number_iff, lay_empty_iff, lay_clash_iff      15, 16, 17 and 18 of a laying out
 --     by_length, by-numbered, by_few, by_number, by_fitting, by_gap, by-clash, by-fine      as the code works a run's refusal out
 -- Assumes nothing.
 use Prim.Native.Nat.{ℕ, ◌≤◌, ◌<◌}

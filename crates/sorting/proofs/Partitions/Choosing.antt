@@ -1,6 +1,6 @@
 -- The loop of `first_fit`, in a run of 1,024 numbers of its own: once the first i rules are taken, the run's first i numbers are first
 -- fit's, and no stamp is later than that of the rules taken. The next rule gets the lowest partition without its stamp (`Stamps.antt`).
---     Choosing, choosing-none, choosing-more      the first i rules are taken
+--     Choosing, choosing_none, choosing_more      the first i rules are taken
 --     choosing_marks                              rule i may be held against the rules before it
 --     choosing_fits, choosing_count, choosing_part, choosing_long, choosing_numbers, choosing_end      every rule is taken, and written to the lent run
 -- Assumes nothing.

@@ -6,7 +6,7 @@
 --     fit_is, fit_free, fit-under, fit-least             the lowest-numbered partition that is free
 --     first_fit-length, first_fit_more, first_fit_at     first fit, rule after rule
 --     first_fit_same, first_fit_is                       of more rules: the numbers of the first ones stay, and are the fits
---     Fitted, first-fit-fitted                           a rule has the lowest partition in which it clashes with no earlier member
+--     Fitted, first_fit_fitted                           a rule has the lowest partition in which it clashes with no earlier member
 --     first_fit_low, first_fit_few                       no rule has a number above its own; at most n partitions
 --     first_fit_choice                                   a choice without clashes and gaps
 -- Assumes nothing.

@@ -1,7 +1,7 @@
 -- First fit by stamps (`specs/Marks.antt`): holding rule i against the rules before it, one after the other, stamps the partitions
 -- that are not free for it; so the lowest partition without its stamp is the one that first fit gives it.
 --     mark_old, mark_clash, mark_keep, part_few               the stamp of one partition
---     Stamping, stamping-none, stamping-more, stamping-end    the stamps once rule i is held against the first j rules
+--     Stamping, stamping_none, stamping_more, stamping_end    the stamps once rule i is held against the first j rules
 --     stamped-fit, stamped_long, stamped-fresh                it is first fit's; and the stamps are ready for the next rule
 -- Assumes nothing.
 use Prim.Native.Nat.{ℕ, suc, ◌+◌, ◌≤◌, ◌<◌}

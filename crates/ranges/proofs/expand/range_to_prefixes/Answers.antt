@@ -26,7 +26,7 @@ pub write_prefixes-requires : goal.write_prefixes-requires
 write_prefixes-requires c =
     let a = c.args in
     let x = c.range_fault-fault.ensures in
-    record { ranged = expand_ranged _ _ _ a.out.now _ x c.if-fault-ne0.false; high_in_bounds = expand_room _ _ _ a.out.now _ x c.if-fault-ne0.false _ c.count_prefixes-needed.ensures c.if-out-needed.false }
+    record { ranged = expand_ranged _ _ _ a.out.now _ x c.if-fault-ne0.false; room = expand_room _ _ _ a.out.now _ x c.if-fault-ne0.false _ c.count_prefixes-needed.ensures c.if-out-needed.false }
 
 -- the prefixes
 pub returns : goal.returns

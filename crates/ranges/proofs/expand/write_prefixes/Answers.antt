@@ -20,12 +20,12 @@ overflow_cast-out c =
 -- the run has a place for the pair
 pub offset_bounds-out-k : goal.offset_bounds-out-k
 offset_bounds-out-k c =
-    omega (arith, room_here c.loop-at.invariant (omega (arith, c.loop-at-test.true)) c.requires.high_in_bounds, c.well_formed)
+    omega (arith, room_here c.loop-at.invariant (omega (arith, c.loop-at-test.true)) c.requires.room, c.well_formed)
 
 pub bounds-out-k : goal.bounds-out-k
 bounds-out-k c =
     let g = c.loop-at.invariant in
-    omega (arith, room_here g (omega (arith, c.loop-at-test.true)) c.requires.high_in_bounds, same_long g c.requires.high_in_bounds)
+    omega (arith, room_here g (omega (arith, c.loop-at-test.true)) c.requires.room, same_long g c.requires.room)
 
 pub overflow_sub-out : goal.overflow_sub-out
 overflow_sub-out c =
@@ -33,16 +33,16 @@ overflow_sub-out c =
 
 pub overflow_add-out : goal.overflow_add-out
 overflow_add-out c =
-    omega (arith, room_here c.loop-at.invariant (omega (arith, c.loop-at-test.true)) c.requires.high_in_bounds, c.well_formed)
+    omega (arith, room_here c.loop-at.invariant (omega (arith, c.loop-at-test.true)) c.requires.room, c.well_formed)
 
 pub offset_bounds-out-k-in-loop-at : goal.offset_bounds-out-k-in-loop-at
 offset_bounds-out-k-in-loop-at c =
-    omega (arith, room_here c.loop-at.invariant (omega (arith, c.loop-at-test.true)) c.requires.high_in_bounds, c.well_formed)
+    omega (arith, room_here c.loop-at.invariant (omega (arith, c.loop-at-test.true)) c.requires.room, c.well_formed)
 
 pub bounds-out-k-in-loop-at : goal.bounds-out-k-in-loop-at
 bounds-out-k-in-loop-at c =
     let g = c.loop-at.invariant in
-    simp length-set (omega (arith, room_here g (omega (arith, c.loop-at-test.true)) c.requires.high_in_bounds, same_long g c.requires.high_in_bounds))
+    simp length-set (omega (arith, room_here g (omega (arith, c.loop-at-test.true)) c.requires.room, same_long g c.requires.room))
 
 pub block_size-at-requires : goal.block_size-at-requires
 block_size-at-requires c =
@@ -57,7 +57,7 @@ overflow_add-at c =
 
 pub overflow_add-k : goal.overflow_add-k
 overflow_add-k c =
-    omega (arith, room_here c.loop-at.invariant (omega (arith, c.loop-at-test.true)) c.requires.high_in_bounds, c.well_formed)
+    omega (arith, room_here c.loop-at.invariant (omega (arith, c.loop-at-test.true)) c.requires.room, c.well_formed)
 
 pub loop-at-smaller : goal.loop-at-smaller
 loop-at-smaller c =
@@ -66,11 +66,11 @@ loop-at-smaller c =
 
 pub loop-at-preserved : goal.loop-at-preserved
 loop-at-preserved c =
-    written_more c.loop-at.invariant (omega (arith, c.loop-at-test.true)) c.requires.high_in_bounds (c.block_size-at.ensures ∙ ap (λ k. 2 ^ k) c.largest_block-t.ensures)
+    written_more c.loop-at.invariant (omega (arith, c.loop-at-test.true)) c.requires.room (c.block_size-at.ensures ∙ ap (λ k. 2 ^ k) c.largest_block-t.ensures)
     c.largest_block-t.ensures
 
 pub shape_of-out : goal.shape_of-out
-shape_of-out c = same_long c.loop-at.invariant c.requires.high_in_bounds
+shape_of-out c = same_long c.loop-at.invariant c.requires.room
 
 pub returns : goal.returns
 returns c = written_end c.loop-at.invariant c.loop-at-test.false

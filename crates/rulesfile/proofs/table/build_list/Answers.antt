@@ -6,7 +6,7 @@ use Rattle.rulesfile.proofs.table.build_list.Goals as goal
 pub void_flaw-requires : goal.void_flaw-requires
 void_flaw-requires c =
     let is = c.in-Refused.is in
-    record { d_bound = c.requires; at_bound = build_place _ _ is c.build-built.ensures.answers }
+    record { d_bound = c.requires; place_fits = build_place _ _ is c.build-built.ensures.answers }
 
 pub returns-in-Is : goal.returns-in-Is
 returns-in-Is c =

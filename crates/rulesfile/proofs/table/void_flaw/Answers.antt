@@ -7,7 +7,7 @@ use Rattle.rulesfile.proofs.table.void_flaw.Goals as goal
 pub overflow_add-at : goal.overflow_add-at
 overflow_add-at c =
     let a = c.args in
-    let few = offset_few a.shape.d a.x.at a.x.then c.offset_of-at.ensures c.requires.d_bound c.requires.at_bound.0 c.requires.at_bound.1 in
+    let few = offset_few a.shape.d a.x.at a.x.then c.offset_of-at.ensures c.requires.d_bound c.requires.place_fits.0 c.requires.place_fits.1 in
     omega arith
 
 pub returns : goal.returns

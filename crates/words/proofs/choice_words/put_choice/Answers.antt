@@ -11,7 +11,7 @@ slice_bounds-narrow-end c = room_long choice_most _ c.requires.few
 
 pub narrow-requires : goal.narrow-requires
 narrow-requires c =
-    record { table_len = sym (room_long choice_most _ c.requires.few); numbers_value = c.requires.narrow }
+    record { table_len = sym (room_long choice_most _ c.requires.few); narrow_numbers = c.requires.narrow }
 
 pub slice_bounds-run-end-2 : goal.slice_bounds-run-end-2
 slice_bounds-run-end-2 c = room_within c.narrow.ensures _

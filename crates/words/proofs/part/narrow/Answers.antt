@@ -8,7 +8,7 @@ pub loop-i-init : goal.loop-i-init
 loop-i-init c = narrowed_none c.requires.table_len
 
 pub overflow_cast-table : goal.overflow_cast-table
-overflow_cast-table c = omega (arith, narrow_at _ c.requires.numbers_value c.loop-i.i c.loop-i-test.true)
+overflow_cast-table c = omega (arith, narrow_at _ c.requires.narrow_numbers c.loop-i.i c.loop-i-test.true)
 
 pub loop-i-preserved : goal.loop-i-preserved
 loop-i-preserved c = narrowed_more c.loop-i.invariant c.loop-i-test.true

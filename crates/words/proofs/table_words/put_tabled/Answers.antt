@@ -16,7 +16,7 @@ slice_bounds-narrow-end c =
 
 pub narrow-requires : goal.narrow-requires
 narrow-requires c =
-    record { table_len = sym (room_enough c.args.numbers.now table_most_lem c.requires.few); numbers_value = c.requires.narrow }
+    record { table_len = sym (room_enough c.args.numbers.now table_most_lem c.requires.few); narrow_numbers = c.requires.narrow }
 
 pub slice_bounds-table-end-2 : goal.slice_bounds-table-end-2
 slice_bounds-table-end-2 c = room_within c.narrow.ensures _
