@@ -48,8 +48,8 @@ status_of_gateway() {
     judge $? './run gateway ends with 1 where its headers can not be read'
     bench_folder
     timeout "$limit" "$root/run" gateway "$scratch/bench/rules.csv" "$scratch/bench/headers.csv" 2>/dev/null </dev/null | head -n 1 >/dev/null
-    [ "${PIPESTATUS[0]}" = 1 ]
-    judge $? './run gateway ends with 1 where its reader goes away'
+    [ "${PIPESTATUS[0]}" = 141 ]
+    judge $? './run gateway ends with 141 where its reader goes away'
 }
 
 status_of_calls() {
@@ -181,7 +181,7 @@ run_unwritable() {
 run_unproved() {
     local copy=$scratch/unproved
     copy_repository "$copy"
-    sed -i 's/^fn main(.*) {$/& unknown();/' "$copy/crates/gateway/src/main.rt"
+    sed -i 's/^fn main(.*{$/& unknown();/' "$copy/crates/gateway/src/main.rt"
     "$copy/run" gateway >"$scratch/got" 2>"$scratch/said" </dev/null
     [ $? = 1 ] && [ ! -s "$scratch/got" ] && head -n 3 "$scratch/said" | grep -q 'main.rt.*error.*unknown'
     judge $? './run says why a program is not proved, and does not run it'

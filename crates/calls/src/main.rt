@@ -22,10 +22,12 @@ mod word;
 
 use programs::output::{say_bytes, write_text};
 use programs::start::{Start, is_own, started};
-use programs::status::{Ended, ended_by, tell_status};
+use programs::status::{Ended, end_program, ended_by};
 use programs::streams::Streams;
 use serve::serve_all;
+use std::cell::Cell;
 use std::env::Env;
+use std::process::ExitCode;
 use words::limits::{LINE_ROOM, NAME_ROOM, OUT_ROOM};
 
 // Lends the runs that the work needs, and says whether all was read and answered.
@@ -97,12 +99,15 @@ fn run_words(env: &impl Env, streams: Streams, start: Start) -> Ended {
     Ended::Misused
 }
 
-fn main(rt: HostRuntime) {
+fn main(rt: HostRuntime) -> ExitCode {
+    let gone = Cell::new(false);
     let streams = Streams {
         input: rt.stdin(),
         output: rt.stdout(),
         error: rt.stderr(),
+        gone: &gone,
     };
     let start = started(&rt);
-    tell_status(&rt, start.asked, run_words(&rt, streams, start));
+    let ended = run_words(&rt, streams, start);
+    end_program(&rt, streams, start.asked, ended)
 }

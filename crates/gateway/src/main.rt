@@ -36,12 +36,14 @@ use input::is_stdin;
 use lists::shape::MOST_NUMBERS;
 use programs::output::{say_bytes, say_error, write_text};
 use programs::start::{Start, is_own, own_word, started};
-use programs::status::{Ended, ended_by, tell_status};
+use programs::status::{Ended, end_program, ended_by};
 use programs::streams::Streams;
 use serve::serve_files;
+use std::cell::Cell;
 use std::env::Env;
 use std::fs::{File, Files};
 use std::io::Error;
+use std::process::ExitCode;
 use tables::layout::MOST_TABLE;
 
 // Lends the runs that the work needs, room for the longest list and for the longest table, and says whether the job was
@@ -140,12 +142,15 @@ something can't be read or written, 2 for wrong use.\n",
     Ended::Misused
 }
 
-fn main(rt: HostRuntime) {
+fn main(rt: HostRuntime) -> ExitCode {
+    let gone = Cell::new(false);
     let streams = Streams {
         input: rt.stdin(),
         output: rt.stdout(),
         error: rt.stderr(),
+        gone: &gone,
     };
     let start = started(&rt);
-    tell_status(&rt, start.asked, run_words(&rt, streams, start));
+    let ended = run_words(&rt, streams, start);
+    end_program(&rt, streams, start.asked, ended)
 }

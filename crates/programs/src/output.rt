@@ -3,7 +3,7 @@ ghost use Rattle.programs.specs.Output.{ShortTold};
 
 use crate::streams::Streams;
 use std::fmt::{InlineText, Write};
-use std::io::Error;
+use std::io::{Error, ErrorKind};
 
 // Says on standard error what the system found wrong, with the words given in front, as one line.
 pub fn say_error(streams: Streams, what: &[u8], error: Error) {
@@ -23,18 +23,31 @@ fn error_words(text: &str) -> &str {
     }
 }
 
+// Notes that the reader of a stream has gone away, where that is what the system found wrong, and says whether it is.
+fn note_gone(streams: Streams, error: Error) -> bool {
+    let is_gone = error.kind() == ErrorKind::BrokenPipe;
+    if is_gone {
+        streams.gone.set(true);
+    }
+    is_gone
+}
+
 // Writes bytes to standard error; that they can't be written there can be told to nobody.
 pub fn say_bytes(streams: Streams, text: &[u8]) {
-    let _ = streams.error.write_all(text);
+    if let Err(error) = streams.error.write_all(text) {
+        let _ = note_gone(streams, error);
+    }
 }
 
 // Writes a text to standard output, and answers whether that went well; where it did not, says so on standard error, with
-// the words given in front.
+// the words given in front, but for a reader that has gone away, which is noted.
 pub fn write_text(streams: Streams, what: &[u8], text: &[u8]) -> bool {
     match streams.output.write_all(text) {
         Ok(()) => true,
         Err(error) => {
-            say_error(streams, what, error);
+            if !note_gone(streams, error) {
+                say_error(streams, what, error);
+            }
             false
         }
     }

@@ -2,8 +2,10 @@
 ghost use Rattle.std.specs.Prelude.{◌≡◌};
 ghost use Rattle.programs.specs.Status.{ended_of, digit_of};
 
+use crate::streams::Streams;
 use std::fs::{Files, OpenOptions};
 use std::io::Write;
+use std::process::ExitCode;
 
 // How a program has ended.
 #[derive(Clone, Copy)]
@@ -38,6 +40,20 @@ pub fn status_digit(ended: Ended) -> u8
         Ended::Failed => b'1',
         Ended::Misused => b'2',
     }
+}
+
+// The status of a process whose output has no reader any more: the shell's number for one that the signal of a broken pipe
+// ended.
+const READER_GONE: u8 = 141;
+
+// Ends a program: tells how it has ended, and ends the process with 0; but where the reader of what it writes has gone away
+// nothing is told, and the process ends with 141.
+pub fn end_program(files: &impl Files, streams: Streams, asked: bool, ended: Ended) -> ExitCode {
+    if streams.gone.get() {
+        return ExitCode::from(READER_GONE);
+    }
+    tell_status(files, asked, ended);
+    ExitCode::SUCCESS
 }
 
 // Tells the status where that was asked for and there is someone to hear it.
