@@ -1,13 +1,9 @@
 -- The answers that the check does not find alone.
-use native.Mathlib.Omega.{arith}
 use Rattle.phrases.proofs.Said.{first-none, first_more, first-all, first_long}
 use Rattle.phrases.proofs.say.put_table.Goals as goal
 
 pub loop-i-init : goal.loop-i-init
 loop-i-init c = first-none
-
-pub overflow_cast-numbers : goal.overflow_cast-numbers
-overflow_cast-numbers c = omega (arith, c.shared_slice_known-in-loop-i-1.given c.loop-i.i)
 
 pub loop-i-preserved : goal.loop-i-preserved
 loop-i-preserved c =

@@ -1,20 +1,13 @@
 -- `words::part::run_end` meets its contract: each way out is the law of its case.
 -- Assumes nothing.
-use native.Mathlib.Omega.{arith}
 use Rattle.words.proofs.Parts.{run_none, run_long, run_cut, run_is}
 use Rattle.words.proofs.part.run_end.Goals as goal
 
 pub returns-then-given-at : goal.returns-then-given-at
 returns-then-given-at c = run_none _ _ _ c.if-given-at.true
 
-pub overflow_cast-k : goal.overflow_cast-k
-overflow_cast-k c = omega (arith, c.shared_slice_known-1.given c.args.at)
-
 pub returns-then-most-k : goal.returns-then-most-k
 returns-then-most-k c = run_long _ _ _ c.if-given-at.false c.if-most-k.true
-
-pub overflow_add-at-2 : goal.overflow_add-at-2
-overflow_add-at-2 c = omega (arith, c.shared_slice_known-1.given c.args.at)
 
 pub returns-then-given-at-2 : goal.returns-then-given-at-2
 returns-then-given-at-2 c = run_cut _ _ _ c.if-given-at.false c.if-most-k.false c.if-given-at-2.true

@@ -1,6 +1,5 @@
 -- `words::prefix_words::call_r2p` meets its contract: each test that fails is a bad line; the run is all past place 3.
 -- Assumes nothing.
-use native.Mathlib.Omega.{arith}
 use Rattle.words.proofs.Words.{r2p_short, r2p_long, r2p_cut, r2p_bad, r2p_made}
 use Rattle.words.proofs.prefix_words.call_r2p.Goals as goal
 
@@ -9,9 +8,6 @@ pub returns-then-given-lt4 : goal.returns-then-given-lt4
 returns-then-given-lt4 c =
     let all = r2p_bad _ (r2p_short _ c.if-given-lt4.true) c.put_bad.ensures in
     record { put_few = all.0; given_after = all.1 }
-
-pub overflow_cast-k : goal.overflow_cast-k
-overflow_cast-k c = omega (arith, c.slice_known-3-1.given 3)
 
 -- a run too long
 pub returns-then-k-gt-RUN_MOST : goal.returns-then-k-gt-RUN_MOST
