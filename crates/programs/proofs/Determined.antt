@@ -10,12 +10,17 @@ use Rattle.programs.proofs.status.ended_by.Kinds as ended_by_kinds
 use Rattle.programs.proofs.status.ended_by.Reads as ended_by_reads
 use Rattle.programs.proofs.status.status_digit.Kinds as status_digit_kinds
 use Rattle.programs.proofs.status.status_digit.Reads as status_digit_reads
+use Rattle.programs.proofs.status.process_status.Kinds as process_status_kinds
+use Rattle.programs.proofs.status.process_status.Reads as process_status_reads
 
 pub ended_by_one : OneAnswer 0 ended_by_kinds.ps ended_by_kinds.r ended_by_reads.Learnt
 ended_by_one κs a x y e g p q = p ∙ sym q
 
 pub status_digit_one : OneAnswer 0 status_digit_kinds.ps status_digit_kinds.r status_digit_reads.Learnt
 status_digit_one κs a x y e g p q = p ∙ sym q
+
+pub process_status_one : OneAnswer 0 process_status_kinds.ps process_status_kinds.r process_status_reads.Learnt
+process_status_one κs a x y e g p q = p ∙ sym q
 
 pub same_one : OneAnswer 2 same_kinds.ps same_kinds.r same_reads.Learnt
 same_one κs a x y e g p q = p ∙ sym q

@@ -1,6 +1,7 @@
 // The exit status that a program tells.
-ghost use Rattle.std.specs.Prelude.{◌≡◌};
-ghost use Rattle.programs.specs.Status.{ended_of, digit_of};
+ghost use Rattle.std.specs.Prelude.{◌≡◌, Bool};
+ghost use Rattle.std.specs.Process.{exit_status};
+ghost use Rattle.programs.specs.Status.{ended_of, digit_of, left_with};
 
 use crate::streams::Streams;
 use std::fs::{Files, OpenOptions};
@@ -42,18 +43,30 @@ pub fn status_digit(ended: Ended) -> u8
     }
 }
 
-// The status of a process whose output has no reader any more: the shell's number for one that the signal of a broken pipe
+// What a process ends with whose output has no reader any more: the shell's number for one that the signal of a broken pipe
 // ended.
 const READER_GONE: u8 = 141;
 
-// Ends a program: tells how it has ended, and ends the process with 0; but where the reader of what it writes has gone away
-// nothing is told, and the process ends with 141.
-pub fn end_program(files: &impl Files, streams: Streams, asked: bool, ended: Ended) -> ExitCode {
-    if streams.gone.get() {
-        return ExitCode::from(READER_GONE);
+// Gives what the process ends with, by whether the reader of what it writes has gone away.
+pub fn process_status(gone: bool) -> u8
+    ensures { result ≡ left_with gone }
+{
+    if gone {
+        return READER_GONE;
     }
-    tell_status(files, asked, ended);
-    ExitCode::SUCCESS
+    0
+}
+
+// Ends a program: tells how it has ended, but nothing where the reader of what it writes has gone away, and answers what the
+// process ends with. Whether the reader has gone away is the system's.
+pub fn end_program(files: &impl Files, streams: Streams, asked: bool, ended: Ended) -> ExitCode
+    ensures { (gone : Bool) × (exit_status result ≡ left_with gone) }
+{
+    let gone = streams.gone.get();
+    if !gone {
+        tell_status(files, asked, ended);
+    }
+    ExitCode::from(process_status(gone))
 }
 
 // Tells the status where that was asked for and there is someone to hear it.
