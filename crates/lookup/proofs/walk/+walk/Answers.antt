@@ -21,6 +21,14 @@ pub returns-in_default : goal.returns-in_default
 returns-in_default t c =
     every_breaks _ _ _ _ _ _ _ _ _ c.if-e-s.false c.if-d-f.false _ c.one_step-step.ensures c.in_default.is c.pack-in_default.ensures
 
+-- a step, and the walk on what it leaves; before what the walk asks, so that a wrong count fails here first
+pub returns : goal.returns
+returns t c =
+    let a = c.args in
+    let less : Smaller a.shape.d a.s a.e a.f c.in-On.s c.in-On.e c.in-On.f =
+    told_smaller _ _ _ _ a.shape.d a.s a.e a.f _ _ _ c.if-e-s.false c.if-d-f.false c.one_step-step.ensures c.in-On.is in
+    every_on _ _ _ _ _ _ _ _ _ c.if-e-s.false c.if-d-f.false _ _ _ _ _ c.one_step-step.ensures c.in-On.is less.falls c.walk.ensures
+
 -- what the step left is smaller
 pub walk-requires : goal.walk-requires
 walk-requires t c =
@@ -34,11 +42,3 @@ walk-requires t c =
         record { in_table = omega (arith, going.in_table, less.ends); in_row = less.field; few_tests = omega (arith, going.few_tests, less.falls) },
       ),
     )
-
--- a step, and the walk on what it leaves
-pub returns : goal.returns
-returns t c =
-    let a = c.args in
-    let less : Smaller a.shape.d a.s a.e a.f c.in-On.s c.in-On.e c.in-On.f =
-    told_smaller _ _ _ _ a.shape.d a.s a.e a.f _ _ _ c.if-e-s.false c.if-d-f.false c.one_step-step.ensures c.in-On.is in
-    every_on _ _ _ _ _ _ _ _ _ c.if-e-s.false c.if-d-f.false _ _ _ _ _ c.one_step-step.ensures c.in-On.is less.falls c.walk.ensures
