@@ -17,7 +17,7 @@ use Rattle.ranges.specs.Numbers.{◌and◌, bit}
 use Rattle.ranges.specs.Sides.{end_of}
 use Rattle.ranges.specs.Prefixes.{bounds_of}
 use Rattle.ranges.specs.Blocks.{Prefix, Ranged, block_fits, block_of, prefixes_of}
-use Rattle.ranges.specs.declared.prefix.Bounds.TheVariants.{Are}
+use Rattle.std.specs.Prelude.{Ok}
 use Rattle.ranges.proofs.Sides.{high_within}
 use Rattle.ranges.proofs.Prefixes.{bounds_are}
 use Rattle.ranges.proofs.Blocks.{block_at, block_narrow, block_largest}
@@ -128,7 +128,7 @@ Each P (p ∷ ps) = P p × Each P ps
 
 -- turned back, it gives its block
 abbrev pub TurnsBack : ℕ → Prefix → Type 0
-TurnsBack w p = bounds_of w p.value p.length ≡ Are p.value (p.value + (span_of w p - 1))
+TurnsBack w p = bounds_of w p.value p.length ≡ Ok (record { low = p.value; high = p.value + (span_of w p - 1) })
 
 pub prefixes_turn_back : (w low high : ℕ) → Ranged w low high → Each (TurnsBack w) (prefixes_of w low high)
 prefixes_turn_back w low high r = prefixes_ind w high (λ s ps. Each (TurnsBack w) ps) (λ s past. tt) more low

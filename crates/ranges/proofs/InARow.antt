@@ -1,81 +1,96 @@
 -- Laws of refusals in a row (`specs/Refusals.antt`, `or_else`), of which the first is given, and of what is answered where none is.
+--     or_err, or_ok, none_ok               a row whose first refuses, and one whose first does not, as a callee answered
+--     not-none, by_number                  what refuses is not none; what has the number 0 is none
 --     else_none, else_iff, else_first      neither refuses; a refusal that is not the first one's; one that is
 --     test_none, test_iff                  a refusal that is given where a test fails
 --     counted_iff, counted, not_counted    what is counted is answered exactly where nothing is refused
---     written, not_written, kept                        what is lent is written where nothing is refused, and else stays
+--     written, not_written, kept           what is lent is written where nothing is refused, and else stays
 -- Assumes nothing.
 use Prim.Native.Nat.{ℕ}
 use mathlib.Core.Bool.{Bool, true, false}
 use mathlib.Core.List.{List}
 use mathlib.Core.Logic.{◌↔◌}
 use mathlib.Core.Path.{◌≡◌, refl, sym, ap, ◌∙◌}
-use borrow.Author.Tests.{eq-eqb, ne_eqb, eqb-true}
+use Rattle.std.specs.Prelude.{Result, Ok, Err}
 use Rattle.ranges.specs.Numbers.{pick}
-use Rattle.ranges.specs.Refusals.{none, or_else, stands, count_unless}
-use Rattle.ranges.specs.declared.refusal.Count.TheVariants.{Is, Refused}
+use Rattle.ranges.specs.Refusals.{Fault, none, or_else, stands, unless, number_in}
 use Rattle.ranges.specs.declared.refusal.Refusal.{Refusal}
-use Rattle.ranges.proofs.Numbers.{true-not-false, never, picked, not_picked}
+use Rattle.ranges.proofs.Numbers.{never}
+use Rattle.ranges.proofs.Answers.{number_some}
 
-module _ (x y : Refusal) where
-  pub else_none : ((or_else x y).number ≡ 0) ↔ ((x.number ≡ 0) × (y.number ≡ 0))
-  else_none = (to (stands x) refl, λ h. rw (eq-eqb x.number 0 h.0) h.1)
-    where
-      to : (s : Bool) → stands x ≡ s → (pick s y x).number ≡ 0 → (x.number ≡ 0) × (y.number ≡ 0)
-      to true e z = (eqb-true x.number 0 e, z)
-      to false e z = absurd (true-not-false (eq-eqb x.number 0 z) e)
+-- ---- as a callee answered
+pub not-none : {A : Type 0} {a : A} {x : Refusal} → Err x ≡ Ok a → ⊥
+not-none e = never (cc)
 
-  pub else_iff : (z : Refusal) → (x.number ≡ z.number → ⊥) → (or_else x y ≡ z) ↔ ((x.number ≡ 0) × (y ≡ z))
-  else_iff z other = (to (stands x) refl, λ h. rw (eq-eqb x.number 0 h.0) h.1)
-    where
-      to : (s : Bool) → stands x ≡ s → pick s y x ≡ z → (x.number ≡ 0) × (y ≡ z)
-      to true e is = (eqb-true x.number 0 e, is)
-      to false e is = absurd (other (ap (λ (r : Refusal). r.number) is))
+module _ {x : Refusal} {fault : Fault} (is : Err x ≡ fault) where
+  pub or_err : {A : Type 0} (y : Result A Refusal) → Err x ≡ or_else fault y
+  or_err y = rw (← is)
 
-  pub else_first : (x.number ≡ 0 → ⊥) → or_else x y ≡ x
-  else_first ne = rw (ne_eqb x.number 0 ne)
+  pub err_fails : fault ≡ none → ⊥
+  err_fails e = not-none (is ∙ e)
 
-module _ (t : Bool) (z : Refusal) (some : z.number ≡ 0 → ⊥) where
-  pub test_none : ((pick t none z).number ≡ 0) ↔ (t ≡ true)
+  -- new is what would be written over old
+  pub err_kept : (new old : List ℕ) → old ≡ pick (stands fault) new old
+  err_kept new old = rw (← is)
+
+module _ {fault : Fault} (is : none ≡ fault) where
+  pub or_ok : {A : Type 0} (y : Result A Refusal) → y ≡ or_else fault y
+  or_ok y = rw (← is)
+
+  pub ok_written : (new old : List ℕ) → new ≡ pick (stands fault) new old
+  ok_written new old = rw (← is)
+
+-- ---- two in a row
+pub by_number : (x : Fault) → number_in x ≡ 0 → x ≡ none
+by_number (Ok u) e = refl
+by_number (Err x) e = absurd (number_some x.cause e)
+
+pub else_none : {A : Type 0} {a : A} (x : Fault) (y : Result A Refusal) → (or_else x y ≡ Ok a) ↔ ((x ≡ none) × (y ≡ Ok a))
+else_none (Ok u) y = (λ e. (refl, e), λ h. h.1)
+else_none (Err x) y = (λ e. absurd (not-none e), λ h. absurd (not-none h.0))
+
+pub else_iff : {A : Type 0} (x : Fault) (y : Result A Refusal) (z : Refusal) → (x ≡ Err z → ⊥) → (or_else x y ≡ Err z) ↔ ((x ≡ none) × (y ≡ Err z))
+else_iff (Ok u) y z other = (λ e. (refl, e), λ h. h.1)
+else_iff (Err x) y z other = (λ e. absurd (other (cc)), λ h. absurd (not-none h.0))
+
+pub else_first : {A : Type 0} (x : Refusal) (y : Result A Refusal) → or_else (Err x) y ≡ Err x
+else_first x y = refl
+
+-- ---- a test
+module _ (t : Bool) (z : Refusal) where
+  pub test_none : (pick t none (Err z) ≡ none) ↔ (t ≡ true)
   test_none = (to t, λ e. rw e)
     where
-      to : (s : Bool) → (pick s none z).number ≡ 0 → s ≡ true
+      to : (s : Bool) → pick s none (Err z) ≡ none → s ≡ true
       to true e = refl
-      to false e = absurd (some e)
+      to false e = absurd (not-none e)
 
-  pub test_iff : (pick t none z ≡ z) ↔ (t ≡ false)
+  pub test_iff : (pick t none (Err z) ≡ Err z) ↔ (t ≡ false)
   test_iff = (to t, λ e. rw e)
     where
-      to : (s : Bool) → pick s none z ≡ z → s ≡ false
-      to true e = absurd (some (ap (λ (r : Refusal). r.number) (sym e)))
+      to : (s : Bool) → pick s none (Err z) ≡ Err z → s ≡ false
+      to true e = absurd (not-none (sym e))
       to false e = refl
 
--- ---- what is answered and what is left: y is the refusal, k what is counted
-module _ (y : Refusal) where
-  module _ (k : ℕ) where
-    pub counted : y.number ≡ 0 → count_unless y k ≡ Is k
-    counted z = rw (eq-eqb y.number 0 z)
+-- ---- what is answered and what is left: y says what is refused, k is what is counted
+pub counted : (y : Fault) (k : ℕ) → y ≡ none → unless y k ≡ Ok k
+counted y k z = rw z
 
-    pub not_counted : (y.number ≡ 0 → ⊥) → count_unless y k ≡ Refused y
-    not_counted ne = rw (ne_eqb y.number 0 ne)
+pub not_counted : (y : Fault) (k : ℕ) {x : Refusal} → y ≡ Err x → unless y k ≡ Err x
+not_counted y k e = rw e
 
-    pub counted_iff : (b : ℕ) → (count_unless y k ≡ Is b) ↔ ((y.number ≡ 0) × (b ≡ k))
-    counted_iff b = (to, λ h. counted h.0 ∙ ap Is (sym h.1))
-      where
-        to : count_unless y k ≡ Is b → (y.number ≡ 0) × (b ≡ k)
-        to e =
-            let told = picked (Is k) (Refused y) (Is b) (stands y) e (λ r. never (cc)) in
-            let is = told.1 in
-            let same : b ≡ k = cc in
-            (eqb-true y.number 0 told.0, same)
+pub counted_iff : (y : Fault) (k b : ℕ) → (unless y k ≡ Ok b) ↔ ((y ≡ none) × (b ≡ k))
+counted_iff (Ok u) k b = (λ e. (refl, cc), λ h. ap Ok (sym h.1))
+counted_iff (Err x) k b = (λ e. absurd (not-none e), λ h. absurd (not-none h.0))
 
-    -- new is what would be written over old
-    pub kept : (new old : List ℕ) (x : Refusal) → count_unless y k ≡ Refused x → pick (stands y) new old ≡ old
-    kept new old x e =
-        let told = not_picked (Is k) (Refused y) (Refused x) (stands y) e (λ r. never (cc)) in
-        rw told.0
+-- new is what would be written over old
+pub kept : (y : Fault) (k : ℕ) (new old : List ℕ) (x : Refusal) → unless y k ≡ Err x → pick (stands y) new old ≡ old
+kept (Ok u) k new old x e = absurd (not-none (sym e))
+kept (Err z) k new old x e = refl
 
-  pub written : (new old : List ℕ) → y.number ≡ 0 → pick (stands y) new old ≡ new
-  written new old z = rw (eq-eqb y.number 0 z)
+pub written : (y : Fault) (new old : List ℕ) → y ≡ none → pick (stands y) new old ≡ new
+written y new old z = rw z
 
-  pub not_written : (new old : List ℕ) → (y.number ≡ 0 → ⊥) → pick (stands y) new old ≡ old
-  not_written new old ne = rw (ne_eqb y.number 0 ne)
+pub not_written : (y : Fault) (new old : List ℕ) → (y ≡ none → ⊥) → pick (stands y) new old ≡ old
+not_written (Ok u) new old ne = absurd (ne refl)
+not_written (Err x) new old ne = refl

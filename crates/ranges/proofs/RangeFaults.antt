@@ -7,17 +7,18 @@
 use Prim.Native.Nat.{ℕ, ◌*◌, ◌/◌, ◌^◌, ◌≤◌, ◌<◌}
 use mathlib.Core.Bool.{Bool, true, false}
 use mathlib.Core.List.{List}
-use mathlib.Core.Path.{◌≡◌, refl, sym, ap, ◌∙◌}
+use mathlib.Core.Path.{◌≡◌, refl, sym, ap}
 use native.Mathlib.Omega.{arith}
+use Rattle.std.specs.Prelude.{Ok, Err}
 use lib.ListN.{length}
-use lib.Dec.{ltb, leb, eqb}
-use borrow.Author.Tests.{lt-ltb, le-ltb, le-leb, lt-leb, eq-eqb, ne_eqb, ltb-false, leb-false}
+use lib.Dec.{ltb, leb}
+use borrow.Author.Tests.{lt-ltb, le-ltb, le-leb, lt-leb, ltb-false, leb-false}
 use Rattle.ranges.specs.Numbers.{pick, ◌or◌}
 use Rattle.ranges.specs.Sides.{end_of}
 use Rattle.ranges.specs.Refusals.{none, refused, refused_at, BadWidth, BadRange, TooLittleRoom}
 use Rattle.ranges.specs.Blocks.{Ranged, bad_range, prefixes_of, range_fault, expand_of, run_after, written}
 use Rattle.ranges.specs.declared.refusal.Refusal.{Refusal}
-use Rattle.ranges.specs.declared.refusal.Count.TheVariants.{Is, Refused}
+use Rattle.ranges.proofs.InARow.{not-none}
 use Rattle.ranges.proofs.Sides.{past_high, within_high}
 
 -- ---- 9, 11
@@ -46,17 +47,17 @@ module _ (w low high : ℕ) (some : 1 ≤ w) (few : w ≤ 32) where
   range_stands le narrow = rw (at_11, lt-leb (end_of high) low (within_high high low le), lt-leb (2 ^ w) high narrow)
 
 -- a range that meets neither
-pub ranged : (w low high : ℕ) → (range_fault w low high).number ≡ 0 → Ranged w low high
+pub ranged : (w low high : ℕ) → range_fault w low high ≡ none → Ranged w low high
 unfolding range_fault
 ranged w low high = go (ltb w 1) (ltb 32 w) (leb (end_of high) low) (leb (2 ^ w) high) refl refl refl refl
   where
     go : (a b e g : Bool) → ltb w 1 ≡ a → ltb 32 w ≡ b → leb (end_of high) low ≡ e → leb (2 ^ w) high ≡ g
-        → (pick (a or b) (refused BadWidth) (pick (e or g) (refused BadRange) none)).number ≡ 0
+        → pick (a or b) (refused BadWidth) (pick (e or g) (refused BadRange) none) ≡ none
         → Ranged w low high
-    go true b e g p q r s z = absurd (omega arith)
-    go false true e g p q r s z = absurd (omega arith)
-    go false false true g p q r s z = absurd (omega arith)
-    go false false false true p q r s z = absurd (omega arith)
+    go true b e g p q r s z = absurd (not-none z)
+    go false true e g p q r s z = absurd (not-none z)
+    go false false true g p q r s z = absurd (not-none z)
+    go false false false true p q r s z = absurd (not-none z)
     go false false false false p q r s z =
         record {
           some_bits = ltb-false w 1 p;
@@ -65,31 +66,26 @@ ranged w low high = go (ltb w 1) (ltb 32 w) (leb (end_of high) low) (leb (2 ^ w)
           narrow = leb-false (2 ^ w) high s;
         }
 
--- ---- the whole answer, where x is the range's refusal as worked out
-module _ (w low high : ℕ) (run : List ℕ) (x : Refusal) (is_x : x ≡ range_fault w low high) where
-  pub expand_refused : (x.number ≡ 0 → ⊥) → (Refused x ≡ expand_of w low high run) × (run ≡ run_after w low high run)
-  expand_refused ne =
-      let refuses : eqb (range_fault w low high).number 0 ≡ false = ne_eqb (range_fault w low high).number 0 (λ z. ne (ap (λ y. y.number) is_x ∙ z)) in
-      (rw (refuses, refuses) (ap Refused is_x), rw (refuses, refuses))
+-- ---- the whole answer, where 9 or 11 applies
+module _ (w low high : ℕ) (run : List ℕ) {x : Refusal} (is_x : Err x ≡ range_fault w low high) where
+  pub expand_refused : (Err x ≡ expand_of w low high run) × (run ≡ run_after w low high run)
+  expand_refused = (rw (← is_x), rw (← is_x))
 
-  module _ (z : x.number ≡ 0) where
-    pub expand_ranged : Ranged w low high
-    expand_ranged = ranged w low high (sym (ap (λ y. y.number) is_x) ∙ z)
+-- ---- and where neither does, of m prefixes that are needed
+module _ (w low high : ℕ) (run : List ℕ) (fits : none ≡ range_fault w low high) where
+  pub expand_ranged : Ranged w low high
+  expand_ranged = ranged w low high (sym fits)
 
-    passes : eqb (range_fault w low high).number 0 ≡ true
-    passes = eq-eqb (range_fault w low high).number 0 (sym (ap (λ y. y.number) is_x) ∙ z)
+  module _ (m : ℕ) (is_m : m ≡ length (prefixes_of w low high)) where
+    pub expand_12 : length run / 2 < m → (refused_at TooLittleRoom m 0 ≡ expand_of w low high run) × (run ≡ run_after w low high run)
+    expand_12 short =
+        let short' : ltb (length run / 2) (length (prefixes_of w low high)) ≡ true = lt-ltb _ _ (rw is_m at short) in
+        (rw (← fits, short') (ap (λ k. refused_at TooLittleRoom k 0) is_m), rw (← fits, short'))
 
-    -- m prefixes are needed
-    module _ (m : ℕ) (is_m : m ≡ length (prefixes_of w low high)) where
-      pub expand_12 : length run / 2 < m → (Refused (refused_at TooLittleRoom m 0) ≡ expand_of w low high run) × (run ≡ run_after w low high run)
-      expand_12 short =
-          let short' : ltb (length run / 2) (length (prefixes_of w low high)) ≡ true = lt-ltb _ _ (rw is_m at short) in
-          (rw (passes, short') (ap (λ k. Refused (refused_at TooLittleRoom k 0)) is_m), rw (passes, short'))
+    pub expand_room : m ≤ length run / 2 → length (prefixes_of w low high) * 2 ≤ length run
+    expand_room enough = omega (arith, is_m)
 
-      pub expand_room : m ≤ length run / 2 → length (prefixes_of w low high) * 2 ≤ length run
-      expand_room enough = omega (arith, is_m)
-
-      pub expand_is : m ≤ length run / 2 → (Is m ≡ expand_of w low high run) × (written (prefixes_of w low high) run ≡ run_after w low high run)
-      expand_is enough =
-          let room : ltb (length run / 2) (length (prefixes_of w low high)) ≡ false = le-ltb _ _ (rw is_m at enough) in
-          (rw (passes, room) (ap Is is_m), rw (passes, room))
+    pub expand_is : m ≤ length run / 2 → (Ok m ≡ expand_of w low high run) × (written (prefixes_of w low high) run ≡ run_after w low high run)
+    expand_is enough =
+        let room : ltb (length run / 2) (length (prefixes_of w low high)) ≡ false = le-ltb _ _ (rw is_m at enough) in
+        (rw (← fits, room) (ap Ok is_m), rw (← fits, room))

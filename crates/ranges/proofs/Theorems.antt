@@ -32,18 +32,18 @@ use lib.ListN.{length, get_or, drop}
 use lib.Arith.{digits_div}
 use lib.Pow.{pow_pos}
 use lib.Seq.{get_or-append-add, get_or-drop}
-use borrow.Author.Tests.{ne_eqb}
-use Rattle.ranges.specs.Refusals.{refused, BadWidth, BadPrefix}
+use Rattle.ranges.specs.Refusals.{none, refused, BadWidth, BadPrefix}
 use Rattle.ranges.specs.Spots.{spot_of, at_end}
 use Rattle.ranges.specs.Sides.{end_of, past_of, side_of, void_of}
 use Rattle.ranges.specs.Prefixes.{bounds_of, last_of}
 use Rattle.ranges.specs.Blocks.{Ranged, prefixes_of, expand_fault, run_after, written, flat}
-use Rattle.ranges.specs.declared.prefix.Bounds.TheVariants.{Are, Refused}
+use Rattle.std.specs.Prelude.{Ok}
 use Rattle.ranges.specs.declared.side.Side.TheVariants.{Above, Inside}
 use Rattle.ranges.specs.declared.spot.Spot.{Spot}
 use Rattle.ranges.specs.declared.spot.Spot.TheVariants.{AtBoth}
 use Rattle.ranges.proofs.Spots.{Sits, sits, spot_is, end_iff, both_ends_iff}
 use Rattle.ranges.proofs.Sides.{Lies, lies, within_high, past_high, past_date, NoNumber, void_when, side_above, side_inside, is_inside_lem}
+use Rattle.ranges.proofs.InARow.{not_written}
 use Rattle.ranges.proofs.Prefixes.{NoPrefix, bounds_9_iff, bounds_10_iff, bounds_are}
 use Rattle.ranges.proofs.Passes.{flat-length}
 use Rattle.ranges.proofs.Cover.{Each, TurnsBack, Largest, holders, prefixes_chain, chain_one, chain_before, chain_past, prefixes_turn_back, prefixes_largest}
@@ -66,21 +66,21 @@ prefix_holds value k x even =
 
 -- such a prefix of 1 to 32 bits is not refused: its range starts at its value and ends with its block
 pub prefix_stands : (w value len : ℕ) → 1 ≤ w → w ≤ 32 → len ≤ w → value < 2 ^ w → value % 2 ^ (w - len) ≡ 0
-    → bounds_of w value len ≡ Are value (last_of w value len)
+    → bounds_of w value len ≡ Ok (record { low = value; high = last_of w value len })
 prefix_stands = bounds_are
 
 -- a width, value and length are refused by 9 exactly when the width is not 1 to 32
-pub prefix_9_iff : (w value len : ℕ) → (bounds_of w value len ≡ Refused (refused BadWidth)) ↔ ((w < 1) ⊎ (32 < w))
+pub prefix_9_iff : (w value len : ℕ) → (bounds_of w value len ≡ refused BadWidth) ↔ ((w < 1) ⊎ (32 < w))
 prefix_9_iff = bounds_9_iff
 
 -- and by 10 exactly when the width is 1 to 32 and value and length make no prefix of it, in one of the paper's three ways (`NoPrefix`)
-pub prefix_10_iff : (w value len : ℕ) → (bounds_of w value len ≡ Refused (refused BadPrefix)) ↔ NoPrefix w value len
+pub prefix_10_iff : (w value len : ℕ) → (bounds_of w value len ≡ refused BadPrefix) ↔ NoPrefix w value len
 prefix_10_iff = bounds_10_iff
 
 -- ---- T2
 -- whatever is refused, the run stays as lent
-pub run_kept : (w low high : ℕ) (run : List ℕ) → ((expand_fault w low high run).number ≡ 0 → ⊥) → run_after w low high run ≡ run
-run_kept w low high run refuses = rw (ne_eqb (expand_fault w low high run).number 0 refuses)
+pub run_kept : (w low high : ℕ) (run : List ℕ) → (expand_fault w low high run ≡ none → ⊥) → run_after w low high run ≡ run
+run_kept w low high run refuses = not_written (expand_fault w low high run) (written (prefixes_of w low high) run) run refuses
 
 -- of an expansion that is written, each number past the last pair is as it was
 pub run_past : (w low high : ℕ) (run : List ℕ) (k : ℕ)

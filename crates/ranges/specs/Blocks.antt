@@ -2,13 +2,12 @@
 -- range; pairs (value, length) in ascending order. And the refusals 9, 11, 12.
 -- Proofs use the laws of `proofs/Blocks.antt`.
 -- Assumes nothing: these are definitions.
-use Rattle.std.specs.Prelude.{ℕ, zero, suc, ◌+◌, ◌-◌, ◌*◌, ◌/◌, ◌%◌, ◌^◌, ◌≤◌, ◌<◌, Bool, List, [], ◌∷◌, ◌++◌, length, drop, ltb, leb, eqb}
+use Rattle.std.specs.Prelude.{ℕ, zero, suc, Result, ◌+◌, ◌-◌, ◌*◌, ◌/◌, ◌%◌, ◌^◌, ◌≤◌, ◌<◌, Bool, List, [], ◌∷◌, ◌++◌, length, drop, ltb, leb, eqb}
 use Rattle.ranges.specs.Numbers.{pick, ◌and◌, ◌or◌, greatest}
 use Rattle.ranges.specs.Sides.{end_of}
-use Rattle.ranges.specs.Refusals.{none, refused, refused_at, or_else, stands, count_unless, BadWidth, BadRange, TooLittleRoom}
+use Rattle.ranges.specs.Refusals.{Fault, none, refused, refused_at, or_else, stands, unless, BadWidth, BadRange, TooLittleRoom}
 use Rattle.ranges.specs.Prefixes.{bad_width}
 use Rattle.ranges.specs.declared.refusal.Refusal.{Refusal}
-use Rattle.ranges.specs.declared.refusal.Count.{Count}
 
 -- the block of 2 ^ t numbers from low on is aligned and stays in the range low to high
 unfoldable pub block_fits : ℕ → ℕ → ℕ → Bool
@@ -48,23 +47,23 @@ pub record Ranged (w low high : ℕ) : Type 0 where
   pub narrow : high < 2 ^ w
 
 -- 9, 11 in this order
-unfoldable pub range_fault : ℕ → ℕ → ℕ → Refusal
+unfoldable pub range_fault : ℕ → ℕ → ℕ → Fault
 range_fault w low high =
     pick (bad_width w) (refused BadWidth)
     (pick (bad_range w low high) (refused BadRange)
     none)
 
 -- 12: fewer places lent than prefixes to write; a run's places are half its length, rounded down
-abbrev pub room_fault : ℕ → List ℕ → Refusal
+abbrev pub room_fault : ℕ → List ℕ → Fault
 room_fault needed run = pick (ltb (length run / 2) needed) (refused_at TooLittleRoom needed 0) none
 
 -- 9, 11, 12 in this order
-abbrev pub expand_fault : ℕ → ℕ → ℕ → List ℕ → Refusal
+abbrev pub expand_fault : ℕ → ℕ → ℕ → List ℕ → Fault
 expand_fault w low high run = or_else (range_fault w low high) (room_fault (length (prefixes_of w low high)) run)
 
 -- how many prefixes, unless something is refused
-abbrev pub expand_of : ℕ → ℕ → ℕ → List ℕ → Count
-expand_of w low high run = count_unless (expand_fault w low high run) (length (prefixes_of w low high))
+abbrev pub expand_of : ℕ → ℕ → ℕ → List ℕ → Result ℕ Refusal
+expand_of w low high run = unless (expand_fault w low high run) (length (prefixes_of w low high))
 
 -- the pairs as numbers of a run
 abbrev pub flat : List Prefix → List ℕ

@@ -3,7 +3,7 @@ ghost use Rattle.std.specs.Prelude.{◌≡◌, ◌*◌, ◌^◌, ◌≤◌, leng
 ghost use Rattle.ranges.specs.Blocks.{Ranged, block_of, prefixes_of, range_fault, expand_of, written, run_after};
 
 use crate::prefix::low_ones;
-use crate::refusal::{BAD_RANGE, BAD_WIDTH, Count, Refusal, TOO_LITTLE_ROOM, refuse};
+use crate::refusal::{Cause, Refusal, refuse};
 
 // Gives the exponent t of the largest aligned block of 2^t numbers that starts at low and stays in low to high: the
 // smaller of two counts. Low is aligned to as many bits as it has trailing zeros, 0 to all 64; the largest power of two
@@ -62,45 +62,42 @@ fn write_prefixes(width: u32, low: u64, high: u64, out: &mut [u32])
     }
 }
 
-// Gives the first of the refusals 9 and 11 that applies to a range, or the one that refuses nothing.
-fn range_fault(width: u32, low: u32, high: u32) -> Refusal
+// Refuses a range by the first of 9 and 11 that applies.
+fn range_fault(width: u32, low: u32, high: u32) -> Result<(), Refusal>
     ensures { result ≡ range_fault width low high }
 {
     if width < 1 {
-        return refuse(BAD_WIDTH);
+        return Err(refuse(Cause::BadWidth));
     }
     if 32 < width {
-        return refuse(BAD_WIDTH);
+        return Err(refuse(Cause::BadWidth));
     }
     if high < low {
-        return refuse(BAD_RANGE);
+        return Err(refuse(Cause::BadRange));
     }
     if low_ones(width) < high {
-        return refuse(BAD_RANGE);
+        return Err(refuse(Cause::BadRange));
     }
-    refuse(0)
+    Ok(())
 }
 
 // Writes the prefixes of the range low to high as pairs of value and length at the front of the lent run, and
 // answers how many. Refuses, in this order and leaving the run as lent: with 9 a width that is not 1 to 32; with 11
 // a range with low > high, or whose high needs more bits; with 12, at how many are needed, a run with too few
 // places, two numbers each.
-pub fn range_to_prefixes(width: u32, low: u32, high: u32, out: &mut [u32]) -> Count
+pub fn range_to_prefixes(width: u32, low: u32, high: u32, out: &mut [u32]) -> Result<usize, Refusal>
     ensures value { result ≡ expand_of width low high out.old }
     ensures out_after { out.new ≡ run_after width low high out.old }
 {
-    let fault = range_fault(width, low, high);
-    if fault.number != 0 {
-        return Count::Refused(fault);
-    }
+    range_fault(width, low, high)?;
     let needed = count_prefixes(width, low as u64, high as u64);
     if out.len() / 2 < needed {
-        return Count::Refused(Refusal {
-            number: TOO_LITTLE_ROOM,
+        return Err(Refusal {
+            cause: Cause::TooLittleRoom,
             at: needed,
             then: 0,
         });
     }
     write_prefixes(width, low as u64, high as u64, out);
-    Count::Is(needed)
+    Ok(needed)
 }

@@ -2,13 +2,13 @@
 ghost use Rattle.std.specs.Prelude.{◌≡◌, ◌-◌, ◌^◌, ◌≤◌};
 ghost use Rattle.ranges.specs.Prefixes.{bounds_of};
 
-use crate::refusal::{BAD_PREFIX, BAD_WIDTH, Refusal, refuse};
+use crate::refusal::{Cause, Refusal, refuse};
 
-// The low and the high end of a prefix, both counted, or a refusal.
-#[derive(Clone, Copy)]
-pub enum Bounds {
-    Are(u32, u32),
-    Refused(Refusal),
+// The low and the high end of a prefix, both counted.
+#[derive(Clone, Copy, PartialEq, Eq)]
+pub struct Bounds {
+    pub low: u32,
+    pub high: u32,
 }
 
 // Gives the number whose k lowest bits are set, for k of 0 to 32.
@@ -25,24 +25,27 @@ pub(crate) fn low_ones(k: u32) -> u32
 
 // Turns a prefix of a width into its low and high end; refuses with 9 a width that is not 1 to 32, then with 10 a
 // length above the width, a value that needs more bits, or a bit set below the prefix.
-pub fn prefix_to_range(width: u32, value: u32, length: u32) -> Bounds
+pub fn prefix_to_range(width: u32, value: u32, length: u32) -> Result<Bounds, Refusal>
     ensures { result ≡ bounds_of width value length }
 {
     if width < 1 {
-        return Bounds::Refused(refuse(BAD_WIDTH));
+        return Err(refuse(Cause::BadWidth));
     }
     if 32 < width {
-        return Bounds::Refused(refuse(BAD_WIDTH));
+        return Err(refuse(Cause::BadWidth));
     }
     if width < length {
-        return Bounds::Refused(refuse(BAD_PREFIX));
+        return Err(refuse(Cause::BadPrefix));
     }
     if low_ones(width) < value {
-        return Bounds::Refused(refuse(BAD_PREFIX));
+        return Err(refuse(Cause::BadPrefix));
     }
     let below = low_ones(width - length);
     if value & below != 0 {
-        return Bounds::Refused(refuse(BAD_PREFIX));
+        return Err(refuse(Cause::BadPrefix));
     }
-    Bounds::Are(value, value | below)
+    Ok(Bounds {
+        low: value,
+        high: value | below,
+    })
 }

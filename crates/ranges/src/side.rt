@@ -5,7 +5,7 @@ ghost use Rattle.ranges.specs.Sides.{closed_at, range_of, side_in, side_of, void
 use crate::spot::{Spot, spot_of};
 
 // On which side of a range a number lies, in the order in which the outcomes are tried.
-#[derive(Clone, Copy)]
+#[derive(Clone, Copy, PartialEq, Eq)]
 pub enum Side {
     Below,
     Above,
@@ -13,7 +13,7 @@ pub enum Side {
 }
 
 // A range: the numbers from low to before past, the first number past it; none where past is at most low.
-#[derive(Clone, Copy)]
+#[derive(Clone, Copy, PartialEq, Eq)]
 pub struct Range {
     pub low: u32,
     pub past: u64,

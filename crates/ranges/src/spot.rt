@@ -5,7 +5,7 @@ ghost use Rattle.ranges.specs.Spots.{spot_of};
 use crate::side::Range;
 
 // Where a number lies as against the two ends of a range. All but below and above are inside it.
-#[derive(Clone, Copy)]
+#[derive(Clone, Copy, PartialEq, Eq)]
 pub enum Spot {
     // Less than low.
     Below,
