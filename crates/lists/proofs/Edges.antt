@@ -1,29 +1,20 @@
 -- Laws of a rule's fields at an end of their ranges (`specs/Edges.antt`).
---     end_read                    the code's test of one field
 --     AtEdge, edge_at_iff         what it means that a rule has a field at an end
 --     edge_listed                 of a rule of a list whose shape stands, whether the list has it need not be asked
 --     edge_same                   only the first d numbers of a header are read
 -- Assumes nothing.
 use Prim.Native.Nat.{ℕ, ◌<◌}
-use mathlib.Core.Bool.{Bool, true}
+use mathlib.Core.Bool.{true}
 use mathlib.Core.List.{List}
 use mathlib.Core.Logic.{◌↔◌}
-use mathlib.Core.Path.{◌≡◌, ap, ◌∙◌}
+use mathlib.Core.Path.{◌≡◌, ap}
 use lib.ListN.{get_or}
 use Rattle.ranges.specs.Spots.{spot_of, at_end}
-use Rattle.ranges.specs.declared.side.Range.{Range}
-use Rattle.ranges.specs.declared.spot.Spot.{Spot}
 use Rattle.ranges.proofs.Numbers.{any_yes, any_at, any_same}
 use Rattle.ranges.proofs.Spots.{Edge, end_iff}
-use Rattle.lists.specs.Rules.{Rules, Shaped, fields_of, rules_in, low_of, ends_at, range_at}
+use Rattle.lists.specs.Rules.{Rules, Shaped, fields_of, rules_in, low_of, ends_at}
 use Rattle.lists.specs.Edges.{end_at, edge_of, rule_edge}
 use Rattle.lists.proofs.InList.{shaped_in}
-use Rattle.lists.proofs.Fitting.{outcome_read}
-
--- the code's test of one field: s is the spot, and r whether it is at an end, as callees told
-pub end_read : (R : Rules) (h : List ℕ) (i f : ℕ) (g : Range) → g ≡ range_at R i f → (s : Spot) → s ≡ spot_of g.low g.past (get_or h f 0)
-    → (r : Bool) → r ≡ at_end s → r ≡ end_at R h i f
-end_read R h i f g is-range s is-s r is_r = is_r ∙ ap at_end (outcome_read spot_of R h i f g is-range s is-s)
 
 -- in some field below d the number is inside rule i's range, and low or the last number of it
 pub record AtEdge (R : Rules) (h : List ℕ) (i : ℕ) : Type 0 where

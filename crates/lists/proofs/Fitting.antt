@@ -1,8 +1,7 @@
 -- Laws of what fits a header (`specs/FirstMatch.antt`, `specs/Scan.antt`): a field, a rule, and which rule is the first.
 --     outcome_read                          the outcome of any test of one field, as the code works it out
---     side_read, inside_read                the same of the range test
+--     side_read                             the same of the range test
 --     below_read, above_read, within-read   the same where each end is asked by itself
---     match_rule, match_none                the first match, or none, from the rule at which the search for it ends
 --     fits_inside, inside_fits              what it means that a rule fits, either way round
 --     fits_same, first_same                 only the first d numbers of a header are read
 -- Assumes nothing.
@@ -12,7 +11,7 @@ use mathlib.Core.List.{List}
 use mathlib.Core.Path.{◌≡◌, sym, ap, ◌∙◌}
 use lib.ListN.{get_or}
 use lib.Dec.{ltb, leb}
-use borrow.Author.Tests.{lt-ltb, le-ltb, ltb-true, ltb-false, leb-true, leb-false}
+use borrow.Author.Tests.{ltb-true, ltb-false, leb-true, leb-false}
 use Rattle.ranges.specs.Sides.{side_of, is_inside}
 use Rattle.ranges.specs.declared.side.Range.{Range}
 use Rattle.ranges.specs.declared.side.Side.{Side}
@@ -21,8 +20,6 @@ use Rattle.ranges.proofs.Numbers.{all_yes, all_at, all_same, least_same}
 use Rattle.ranges.proofs.Sides.{side_below, side_above, side_inside, inside_yes, inside_at_lem}
 use Rattle.lists.specs.Rules.{Rules, fields_of, rules_in, low_of, ends_at, range_at}
 use Rattle.lists.specs.FirstMatch.{side_at, inside_at, fits, first_match}
-use Rattle.lists.specs.Scan.{match_of}
-use Rattle.lists.specs.declared.scan.Match.TheVariants.{Rule, Nothing}
 
 -- the outcome of a test of the number against a range, where a callee said that it is the rule's
 pub outcome_read : {A : Type 0} (test : ℕ → ℕ → ℕ → A) (R : Rules) (h : List ℕ) (i f : ℕ) (g : Range) → g ≡ range_at R i f → (s : A)
@@ -47,17 +44,6 @@ module _ (R : Rules) (h : List ℕ) (i f : ℕ) (g : Range) (is-range : g ≡ ra
 
       pub within-read : u ≡ false → InsideIt ≡ side_at R h i f
       within-read before = side_read InsideIt (sym (side_inside g.low g.past (get_or h f 0) from_low (leb-false g.past (get_or h f 0) (sym is-u ∙ before))))
-
-  pub inside_read : (s t : Side) → s ≡ side_of g.low g.past (get_or h f 0) → s ≡ t → is_inside t ≡ inside_at R h i f
-  inside_read s t is-side is-t = ap is_inside (sym is-t ∙ side_read s is-side)
-
--- ---- the first match as the code works it out: i, of m rules
-module _ (R : Rules) (h : List ℕ) (i m : ℕ) (is-first : i ≡ first_match R h) (is_n : m ≡ rules_in R) where
-  pub match_rule : i < m → Rule i ≡ match_of R h
-  match_rule lt = rw (← is-first, ← is_n, lt-ltb i m lt)
-
-  pub match_none : m ≤ i → Nothing ≡ match_of R h
-  match_none past = rw (← is-first, ← is_n, le-ltb i m past)
 
 -- ---- what it means that a rule fits
 -- low ≤ number, and the number is before the first one past the range

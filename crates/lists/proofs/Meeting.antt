@@ -1,7 +1,6 @@
 -- Laws of rules that meet (`specs/Independence.antt`): in a field, in every field, and the search for a pair that does.
---     meet-read                     the code's test of one field
 --     sought_none, sought_more      the search for a rule's partner: where it begins, and after a turn
---     sought_met, sought_end        its ways out; `no_partner` says what the last means for the rule
+--     sought_met, sought_end        its ways out
 --     pair_both, pair_none          the ways out of the search for a pair
 --     fits-meet, meet-fits          two rules without a void range meet exactly when one header fits both
 --     shared_header                  that header: eight numbers, bounded by what bounds the list's (`shared_length`, `shared_below`)
@@ -9,29 +8,24 @@
 use Prim.Native.Nat.{ℕ, zero, suc, max, ◌+◌, ◌≤◌, ◌<◌, suc-le-suc}
 use mathlib.Core.Bool.{Bool, true, false}
 use mathlib.Core.List.{List}
-use mathlib.Core.Path.{◌≡◌, refl, ◌∙◌}
+use mathlib.Core.Path.{◌≡◌, refl}
 use native.Mathlib.Omega.{arith}
 use lib.ListN.{length, get_or}
 use lib.Dec.{ltb}
+use Rattle.std.specs.Prelude.{Some, None}
 use native.Mathlib.Nat.{le-max_left, le-max_right, max-le, le_of_suc-le-suc}
 use borrow.Author.Tests.{lt-ltb, le-ltb, ltb-true}
 use Rattle.ranges.specs.Numbers.{tab}
-use Rattle.ranges.specs.Sides.{meet_of}
-use Rattle.ranges.specs.declared.side.Range.{Range}
 use Rattle.ranges.proofs.Numbers.{and_left, and_right, and_both, all_yes, all_at, tab-length, tab_at}
-use Rattle.lists.specs.Rules.{Rules, fields_of, rules_in, offset_of, low_of, ends_at, range_at}
+use Rattle.lists.specs.Rules.{Rules, fields_of, rules_in, offset_of, low_of, ends_at}
 use Rattle.lists.specs.Headers.{header_length}
 use Rattle.lists.specs.FirstMatch.{fits}
 use Rattle.lists.specs.Independence.{meet_at, meet, partners, partner_of, has_partner, paired, pair_of}
 use Rattle.lists.specs.declared.independence.Pair.TheVariants.{Independent, Both}
-use Rattle.lists.proofs.Search.{Answered, answered_more, answered-least, answered_end}
+use Rattle.lists.specs.Found.{found_below}
+use Rattle.lists.proofs.Search.{Answered, answered_more, answered-least, answered_end, answered_found, answered_nothing, found_is}
 use Rattle.lists.proofs.Voids.{SoundRule}
 use Rattle.lists.proofs.Fitting.{Inside, fits_inside, inside_fits}
-
--- the code's test of one field, where callees said that the ranges are those of rules i and j
-pub meet-read : (R : Rules) (i j f : ℕ) (g k : Range) → g ≡ range_at R i f → k ≡ range_at R j f → (t : Bool)
-    → t ≡ meet_of g.low g.past k.low k.past → t ≡ meet_at R i j f
-meet-read R i j f g k is-g is-k t is-t = is-t ∙ rw (is-g, is-k)
 
 -- ---- the search for a partner of rule i: no rule below j is one, and j comes after i
 pub record Sought (R : Rules) (i j : ℕ) : Type 0 where
@@ -57,26 +51,23 @@ module _ (R : Rules) (i : ℕ) where
   pub sought_more : {j : ℕ} → Sought R i j → j < rules_in R → {r : Bool} → r ≡ meet R i j → r ≡ false → Sought R i (j + 1)
   sought_more {j} s lt {r} is_r apart = record { after = omega (arith, s.after); told = answered_more s.told lt (after_i j r s is_r) apart }
 
-  pub sought_met : {j : ℕ} → Sought R i j → j < rules_in R → {r : Bool} → r ≡ meet R i j → r ≡ true → j ≡ partner_of R i
+  pub sought_met : {j : ℕ} → Sought R i j → j < rules_in R → {r : Bool} → r ≡ meet R i j → r ≡ true → Some j ≡ found_below (rules_in R) (partner_of R i)
   unfolding partner_of
-  sought_met {j} s lt {r} is_r met = answered-least s.told lt (after_i j r s is_r) met
+  sought_met {j} s lt {r} is_r met = answered_found s.told lt (after_i j r s is_r) met
 
-  pub sought_end : {j : ℕ} → Sought R i j → rules_in R ≤ j → rules_in R ≡ partner_of R i
+  pub sought_end : {j : ℕ} → Sought R i j → rules_in R ≤ j → None ≡ found_below (rules_in R) (partner_of R i)
   unfolding partner_of
-  sought_end s past = answered_end s.told past
-
--- what a search that ends at n says of rule i
-pub no_partner : (R : Rules) (i j : ℕ) → j ≡ partner_of R i → rules_in R ≤ j → has_partner R i ≡ false
-no_partner R i j is-partner past = le-ltb (partner_of R i) (rules_in R) (rw is-partner at past)
+  sought_end s past = answered_nothing s.told past
 
 -- ---- the search for a pair: no rule below i has a partner
 module _ (R : Rules) (i : ℕ) (told : Answered (has_partner R) false (rules_in R) i) where
-  pub pair_both : (j : ℕ) → j ≡ partner_of R i → i < rules_in R → j < rules_in R → Both i j ≡ pair_of R
+  pub pair_both : {j : ℕ} → Some j ≡ found_below (rules_in R) (partner_of R i) → i < rules_in R → Both i j ≡ pair_of R
   unfolding paired
-  pair_both j is-partner lt lt-j =
-      let has : has_partner R i ≡ true = lt-ltb (partner_of R i) (rules_in R) (rw is-partner at lt-j) in
+  pair_both found lt =
+      let is = found_is found in
+      let has : has_partner R i ≡ true = lt-ltb (partner_of R i) (rules_in R) (rw is.0 at is.1) in
       let here = answered-least told lt refl has in
-      rw (← here, lt-ltb i (rules_in R) lt, is-partner)
+      rw (← here, lt-ltb i (rules_in R) lt, is.0)
 
   pub pair_none : rules_in R ≤ i → Independent ≡ pair_of R
   unfolding paired

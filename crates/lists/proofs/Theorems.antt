@@ -29,11 +29,12 @@ use Prim.Native.Nat.{ℕ, ◌^◌, ◌≤◌, ◌<◌}
 use mathlib.Core.Bool.{true, false}
 use mathlib.Core.List.{List}
 use mathlib.Core.Logic.{◌↔◌}
-use mathlib.Core.Path.{◌≡◌, sym, ap, ◌∙◌}
+use mathlib.Core.Path.{◌≡◌, ap, ◌∙◌}
 use native.Mathlib.Omega.{arith}
 use lib.Dec.{ltb}
 use lib.ListN.{length, get_or}
 use borrow.Author.Tests.{lt-ltb, le-ltb, ltb-true, ltb-false, le-leb, lt-leb, leb-true, leb-false, eqb-true}
+use Rattle.std.specs.Prelude.{Some}
 use Rattle.ranges.specs.Numbers.{least}
 use Rattle.ranges.specs.Sides.{end_of}
 use Rattle.ranges.specs.Refusals.{none, stands, refused_at, LowAboveHigh}
@@ -43,6 +44,7 @@ use Rattle.ranges.proofs.Sides.{past_one}
 use Rattle.ranges.proofs.Numbers.{never, picked, not_picked, and_left, and_right, least_is, least-none, least_hit, least_under}
 use Rattle.lists.specs.declared.shape.Shape.{Shape}
 use Rattle.lists.specs.Rules.{Rules, Shaped, shape_of, flag_of, listed, is_date, fields_of, rules_in, low_of, high_of, ends_at, is_void}
+use Rattle.lists.specs.Found.{found_below}
 use Rattle.lists.specs.Faults.{in_list, shape_fault, ends_fault, list_fault, bad_rule}
 use Rattle.lists.specs.Check.{check_of}
 use Rattle.lists.specs.Headers.{header_length, IsHeader}
@@ -140,7 +142,8 @@ check_4_iff R i f = (λ e. to (refusal e), fro)
         let here = le-leb (ends_at R i f) (low_of R i f) l.void in
         let first = least_is (is_void R i) (fields_of R) f l.field here (λ g lt. lt-leb (ends_at R i g) (low_of R i g) (l.fields_before g lt)) in
         let le : i ≤ rules_in R = omega (arith, l.rule) in
-        let ends = ends_4 R i (sound_answered R i le l.rules_before) f (sym first) l.rule l.field in
+        let found : Some f ≡ found_below (fields_of R) (least (fields_of R) (is_void R i)) = rw (first, lt-ltb f (fields_of R) l.field) in
+        let ends = ends_4 R i (sound_answered R i le l.rules_before) found l.rule in
         rw (shaped_none R l.shape, ← ends)
 
 -- ---- T7

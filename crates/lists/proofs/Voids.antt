@@ -1,42 +1,38 @@
 -- Laws of the refusal 4 (`specs/Faults.antt`): a range that holds no number, in a field, in a rule, in a list.
---     void_read            the code's test of a range
 --     bad_yes, bad_no      a rule with such a field, and one without; `bad_field`: it then has a smallest
 --     ends_4, ends_stands  the refusal, at the rule and field where the search for it ends, and none
 --     not-bad, sound_not_bad      a rule without such a field holds a number in every range, and the other way round
 -- Assumes nothing.
 use Prim.Native.Nat.{ℕ, ◌≤◌, ◌<◌}
 use mathlib.Core.Bool.{Bool, true, false, not}
-use mathlib.Core.Path.{◌≡◌, refl, ap, ◌∙◌}
+use mathlib.Core.Path.{◌≡◌, refl, ap}
 use native.Mathlib.Omega.{arith}
 use lib.Dec.{ltb}
-use borrow.Author.Tests.{lt-ltb, le-ltb, lt-leb, ltb-true, ltb-false, leb-false, not-true, not-false}
+use Rattle.std.specs.Prelude.{Some, None}
+use borrow.Author.Tests.{lt-ltb, le-ltb, lt-leb, ltb-true, leb-false, not-true, not-false}
 use Rattle.ranges.specs.Numbers.{least}
-use Rattle.ranges.specs.Sides.{void_of}
-use Rattle.ranges.specs.declared.side.Range.{Range}
 use Rattle.ranges.specs.Refusals.{none, refused_at, LowAboveHigh}
 use Rattle.ranges.proofs.Numbers.{true-not-false, all_yes, all_at, all_no, least_hit, least_under}
-use Rattle.lists.specs.Rules.{Rules, fields_of, rules_in, low_of, ends_at, range_at, is_void}
+use Rattle.lists.specs.Rules.{Rules, fields_of, rules_in, low_of, ends_at, is_void}
 use Rattle.lists.specs.Faults.{sound_rule, bad_rule, ends_fault}
-use Rattle.lists.proofs.Search.{Answered, answered-least, answered_end}
-
--- the code's test of a range, where a callee said that it is the rule's
-pub void_read : (R : Rules) (i f : ℕ) (g : Range) → g ≡ range_at R i f → (t : Bool) → t ≡ void_of g.low g.past → t ≡ is_void R i f
-void_read R i f g is-range t is-t = is-t ∙ ap (λ k. void_of k.low k.past) is-range
+use Rattle.lists.specs.Found.{found_below}
+use Rattle.lists.proofs.Search.{Answered, answered-least, answered_end, found_is, found_none}
 
 -- some range of rule i holds no number
 abbrev pub bad : Rules → ℕ → Bool
 bad R i = not (sound_rule R i)
 
--- v is the rule's smallest such field, and d where there is none
-module _ (R : Rules) (i v : ℕ) (is-least : v ≡ least (fields_of R) (is_void R i)) where
-  pub bad_yes : v < fields_of R → bad R i ≡ true
-  bad_yes lt =
-      let void : is_void R i v ≡ true = rw is-least (least_hit (is_void R i) (fields_of R) (rw is-least at lt)) in
-      ap not (all_no (λ f. not (is_void R i f)) (fields_of R) v lt (ap not void))
+-- the search for the rule's smallest such field
+module _ (R : Rules) (i : ℕ) where
+  pub bad_yes : {v : ℕ} → Some v ≡ found_below (fields_of R) (least (fields_of R) (is_void R i)) → bad R i ≡ true
+  bad_yes {v} found =
+      let is = found_is found in
+      let void : is_void R i v ≡ true = rw is.0 (least_hit (is_void R i) (fields_of R) (rw is.0 at is.1)) in
+      ap not (all_no (λ f. not (is_void R i f)) (fields_of R) v is.1 (ap not void))
 
-  pub bad_no : fields_of R ≤ v → bad R i ≡ false
-  bad_no past =
-      let past-least : fields_of R ≤ least (fields_of R) (is_void R i) = rw is-least at past in
+  pub bad_no : None ≡ found_below (fields_of R) (least (fields_of R) (is_void R i)) → bad R i ≡ false
+  bad_no found =
+      let past = found_none found in
       ap not (all_yes (λ f. not (is_void R i f)) (fields_of R) (λ f lt. ap not (least_under (is_void R i) (fields_of R) f (omega arith))))
 
 -- a rule with such a field has a smallest one
@@ -45,16 +41,17 @@ bad_field R i is-bad = go (ltb (least (fields_of R) (is_void R i)) (fields_of R)
   where
     go : (t : Bool) → ltb (least (fields_of R) (is_void R i)) (fields_of R) ≡ t → least (fields_of R) (is_void R i) < fields_of R
     go true e = ltb-true (least (fields_of R) (is_void R i)) (fields_of R) e
-    go false e = absurd (true-not-false is-bad (bad_no R i (least (fields_of R) (is_void R i)) refl (ltb-false (least (fields_of R) (is_void R i)) (fields_of R) e)))
+    go false e = absurd (true-not-false is-bad (bad_no R i (rw e)))
 
 -- the rules below i have no such field
 module _ (R : Rules) (i : ℕ) (told : Answered (bad R) false (rules_in R) i) where
   -- rule i has one, v
-  pub ends_4 : (v : ℕ) → v ≡ least (fields_of R) (is_void R i) → i < rules_in R → v < fields_of R → refused_at LowAboveHigh i v ≡ ends_fault R
+  pub ends_4 : {v : ℕ} → Some v ≡ found_below (fields_of R) (least (fields_of R) (is_void R i)) → i < rules_in R
+      → refused_at LowAboveHigh i v ≡ ends_fault R
   unfolding ends_fault bad_rule
-  ends_4 v is-least lt field =
-      let here = answered-least told lt refl (bad_yes R i v is-least field) in
-      rw (← here, lt-ltb i (rules_in R) lt, is-least)
+  ends_4 found lt =
+      let here = answered-least told lt refl (bad_yes R i found) in
+      rw (← here, lt-ltb i (rules_in R) lt, (found_is found).0)
 
   -- there is no rule i
   pub ends_stands : rules_in R ≤ i → none ≡ ends_fault R

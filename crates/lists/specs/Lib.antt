@@ -10,3 +10,4 @@ pub mod Scan
 pub mod Independence
 -- Scaffolding: what the contracts of private functions say.
 pub mod Asked
+pub mod Found

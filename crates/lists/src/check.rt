@@ -3,6 +3,7 @@ ghost use Rattle.std.specs.Prelude.{◌≡◌};
 ghost use Rattle.ranges.specs.Numbers.{least};
 ghost use Rattle.lists.specs.Rules.{listed, is_void, Shaped};
 ghost use Rattle.lists.specs.Asked.{HasRule, HasField};
+ghost use Rattle.lists.specs.Found.{found_below};
 ghost use Rattle.lists.specs.Faults.{ends_fault, list_fault};
 ghost use Rattle.lists.specs.Check.{check_of};
 
@@ -19,20 +20,17 @@ fn void_at(shape: Shape, list: &[u32], i: u16, f: u16) -> bool
     is_void(range_at(shape, list, i, f))
 }
 
-// Gives the smallest field of rule i whose range holds no number, and d where there is none.
-fn void_field(shape: Shape, list: &[u32], i: u16) -> u16
+// Gives the smallest field of rule i whose range holds no number, or none.
+fn void_field(shape: Shape, list: &[u32], i: u16) -> Option<u16>
     requires { HasRule (listed shape list.now) i }
-    ensures { result ≡ least shape.d (is_void (listed shape list.now) i) }
+    ensures { result ≡ found_below shape.d (least shape.d (is_void (listed shape list.now) i)) }
 {
-    let d = shape.d as u16;
-    let mut f: u16 = 0;
-    while f < d {
+    for f in 0..shape.d as u16 {
         if void_at(shape, list, i, f) {
-            return f;
+            return Some(f);
         }
-        f += 1;
     }
-    d
+    None
 }
 
 // Gives the refusal 4 of a list whose shape stands, at the smallest rule number with a range that holds no number and then
@@ -41,19 +39,14 @@ fn ends_fault(shape: Shape, list: &[u32]) -> Refusal
     requires { Shaped (listed shape list.now) }
     ensures { result ≡ ends_fault (listed shape list.now) }
 {
-    let d = shape.d as u16;
-    let n = rules_in(shape, list) as u16;
-    let mut i: u16 = 0;
-    while i < n {
-        let f = void_field(shape, list, i);
-        if f < d {
+    for i in 0..rules_in(shape, list) as u16 {
+        if let Some(f) = void_field(shape, list, i) {
             return Refusal {
                 number: LOW_ABOVE_HIGH,
                 at: i as usize,
                 then: f as usize,
             };
         }
-        i += 1;
     }
     refuse(0)
 }

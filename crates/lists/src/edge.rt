@@ -13,14 +13,7 @@ use ranges::spot::{Spot, spot_of};
 fn at_end(spot: Spot) -> bool
     ensures { result ≡ at_end spot }
 {
-    match spot {
-        Spot::Below => false,
-        Spot::AtLow => true,
-        Spot::Between => false,
-        Spot::AtHigh => true,
-        Spot::AtBoth => true,
-        Spot::Above => false,
-    }
+    matches!(spot, Spot::AtLow | Spot::AtHigh | Spot::AtBoth)
 }
 
 // Says whether the header's number in field f is at an end of the range of rule i.
@@ -36,13 +29,10 @@ fn edge_at(shape: Shape, list: &[u32], i: u16, header: &[u32; 8]) -> bool
     requires { HasRule (listed shape list.now) i }
     ensures { result ≡ edge_of (listed shape list.now) header.now i }
 {
-    let d = shape.d as u16;
-    let mut f: u16 = 0;
-    while f < d {
+    for f in 0..shape.d as u16 {
         if end_at(shape, list, i, f, header) {
             return true;
         }
-        f += 1;
     }
     false
 }

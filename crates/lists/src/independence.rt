@@ -2,6 +2,7 @@
 ghost use Rattle.std.specs.Prelude.{◌≡◌, ◌<◌};
 ghost use Rattle.lists.specs.Rules.{listed, rules_in, Shaped};
 ghost use Rattle.lists.specs.Asked.{HasRule, HasField};
+ghost use Rattle.lists.specs.Found.{found_below};
 ghost use Rattle.lists.specs.Independence.{meet_at, meet, partner_of, pair_of, independence_of};
 
 use crate::check::list_fault;
@@ -31,30 +32,25 @@ fn meet_all(shape: Shape, list: &[u32], i: u16, j: u16) -> bool
     requires { (HasRule (listed shape list.now) i) × (HasRule (listed shape list.now) j) }
     ensures { result ≡ meet (listed shape list.now) i j }
 {
-    let d = shape.d as u16;
-    let mut f: u16 = 0;
-    while f < d {
+    for f in 0..shape.d as u16 {
         if !meet_at(shape, list, i, j, f) {
             return false;
         }
-        f += 1;
     }
     true
 }
 
-// Gives the smallest rule number after i that meets rule i, and n where there is none.
-fn partner_of(shape: Shape, list: &[u32], n: u16, i: u16) -> u16
+// Gives the smallest rule number after i that meets rule i, or none.
+fn partner_of(shape: Shape, list: &[u32], n: u16, i: u16) -> Option<u16>
     requires { (Shaped (listed shape list.now)) × (n ≡ rules_in (listed shape list.now)) × (i < n) }
-    ensures { result ≡ partner_of (listed shape list.now) i }
+    ensures { result ≡ found_below (rules_in (listed shape list.now)) (partner_of (listed shape list.now) i) }
 {
-    let mut j: u16 = i + 1;
-    while j < n {
+    for j in i + 1..n {
         if meet_all(shape, list, i, j) {
-            return j;
+            return Some(j);
         }
-        j += 1;
     }
-    n
+    None
 }
 
 // Gives the least pair of rules that meet, smallest i first and then smallest j, of a list whose shape stands.
@@ -63,13 +59,10 @@ fn least_pair(shape: Shape, list: &[u32]) -> Pair
     ensures { result ≡ pair_of (listed shape list.now) }
 {
     let n = rules_in(shape, list) as u16;
-    let mut i: u16 = 0;
-    while i < n {
-        let j = partner_of(shape, list, n, i);
-        if j < n {
+    for i in 0..n {
+        if let Some(j) = partner_of(shape, list, n, i) {
             return Pair::Both(i as usize, j as usize);
         }
-        i += 1;
     }
     Pair::Independent
 }

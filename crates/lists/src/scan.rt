@@ -1,7 +1,8 @@
 // The plain scan: the first rule that fits a header.
 ghost use Rattle.std.specs.Prelude.{◌≡◌};
-ghost use Rattle.lists.specs.Rules.{listed, Shaped};
+ghost use Rattle.lists.specs.Rules.{listed, rules_in, Shaped};
 ghost use Rattle.lists.specs.Asked.{HasRule, HasField};
+ghost use Rattle.lists.specs.Found.{found_below};
 ghost use Rattle.lists.specs.FirstMatch.{inside_at, fits, first_match};
 ghost use Rattle.lists.specs.Scan.{fits_in, scan_of};
 
@@ -24,12 +25,10 @@ fn inside_at(shape: Shape, list: &[u32], i: u16, f: u16, header: &[u32; 8]) -> b
     requires { HasField (listed shape list.now) i f }
     ensures { result ≡ inside_at (listed shape list.now) header.now i f }
 {
-    let side = side_of(range_at(shape, list, i, f), header[f as usize]);
-    match side {
-        Side::Below => false,
-        Side::Above => false,
-        Side::Inside => true,
-    }
+    matches!(
+        side_of(range_at(shape, list, i, f), header[f as usize]),
+        Side::Inside
+    )
 }
 
 // Says whether rule i fits a header, for a rule that stands in the list; ends at the first field that does not fit.
@@ -37,13 +36,10 @@ fn fits_at(shape: Shape, list: &[u32], i: u16, header: &[u32; 8]) -> bool
     requires { HasRule (listed shape list.now) i }
     ensures { result ≡ fits (listed shape list.now) header.now i }
 {
-    let d = shape.d as u16;
-    let mut f: u16 = 0;
-    while f < d {
+    for f in 0..shape.d as u16 {
         if !inside_at(shape, list, i, f, header) {
             return false;
         }
-        f += 1;
     }
     true
 }
@@ -58,21 +54,18 @@ pub fn rule_fits(shape: Shape, list: &[u32], rule: u16, header: [u32; 8]) -> boo
     fits_at(shape, list, rule, &header)
 }
 
-// Gives the first match of a header in a list whose shape stands, the smallest rule number that fits, and n where
-// none does; ends at the first rule that fits.
-fn first_match(shape: Shape, list: &[u32], header: &[u32; 8]) -> u16
+// Gives the first match of a header in a list whose shape stands, the smallest rule number that fits, or none;
+// ends at the first rule that fits.
+fn first_match(shape: Shape, list: &[u32], header: &[u32; 8]) -> Option<usize>
     requires { Shaped (listed shape list.now) }
-    ensures { result ≡ first_match (listed shape list.now) header.now }
+    ensures { result ≡ found_below (rules_in (listed shape list.now)) (first_match (listed shape list.now) header.now) }
 {
-    let n = rules_in(shape, list) as u16;
-    let mut i: u16 = 0;
-    while i < n {
+    for i in 0..rules_in(shape, list) as u16 {
         if fits_at(shape, list, i, header) {
-            return i;
+            return Some(i as usize);
         }
-        i += 1;
     }
-    n
+    None
 }
 
 // Scans a list plainly: gives the first match of a header, or none, or the first of the refusals 1, 2, 3 and 4 that
@@ -84,9 +77,8 @@ pub fn plain_scan(shape: Shape, list: &[u32], header: [u32; 8]) -> Match
     if fault.number != 0 {
         return Match::Refused(fault);
     }
-    let i = first_match(shape, list, &header) as usize;
-    if i < rules_in(shape, list) {
-        return Match::Rule(i);
+    match first_match(shape, list, &header) {
+        Some(i) => Match::Rule(i),
+        None => Match::Nothing,
     }
-    Match::Nothing
 }

@@ -13,17 +13,19 @@ use mathlib.Core.Bool.{Bool, true, false}
 use mathlib.Core.List.{List, [], ◌∷◌}
 use mathlib.Core.Path.{◌≡◌, refl, sym, ap, ◌∙◌}
 use native.Mathlib.Omega.{arith}
-use borrow.Author.Tests.{ne_eqb, eqb-true, eqb-false, ltb-true, ltb-false, leb-true, leb-false}
+use borrow.Author.Tests.{ne_eqb, ltb-true, ltb-false, leb-true, leb-false}
 use lib.Dec.{ltb, leb, eqb}
 use lib.ListN.{length, set}
 use lib.Seq.{sets}
+use Rattle.std.specs.Prelude.{Option, Some, None, is_none}
+use Rattle.std.specs.Option.{option_or}
 use Rattle.ranges.specs.Numbers.{pick, ◌and◌}
 use Rattle.ranges.proofs.Numbers.{never, and_left, and_right}
 use Rattle.text.specs.Cells.{whole_cell, is_number, readable, value_of}
 use Rattle.text.specs.Rows.{all_numbers, values_of, counted_to, exact_below, one_more, many_more, bad_in, first_bad, bad_after, good, kept_as, Reading, begin, read_cell, read_cells}
 use Rattle.text.specs.declared.cell.Cell.{Cell}
 use Rattle.text.specs.declared.cell.Cell.TheVariants.{Empty, Number, Bad}
-use Rattle.text.proofs.Rows.{more_few, more_many, bad-first, bad-before, kept_length}
+use Rattle.text.proofs.Rows.{more_few, more_many, kept_length}
 
 -- ---- a cell that is a number
 pub number_is : (c : List ℕ) → is_number (whole_cell c) ≡ true → whole_cell c ≡ Number (value_of c)
@@ -35,57 +37,44 @@ number_is (b ∷ bs) e = go (readable (b ∷ bs)) e
     go false e' = never (cc)
 
 -- ---- the first that is no number
-more_some : (k : ℕ) → one_more k ≡ 0 → ⊥
-more_some k = go (ltb k counted_to) refl
-  where
-    go : (t : Bool) → ltb k counted_to ≡ t → one_more k ≡ 0 → ⊥
-    go true e none = let one = more_few k (ltb-true k counted_to e) in omega arith
-    go false e none = let many = ltb-false k counted_to e in let one = more_many k many in omega arith
-
--- after cells of which the k-th is the first bad one, whatever follows
-first_kept : (bad k m : ℕ) → (k ≡ 0 → ⊥) → first_bad (first_bad bad k) m ≡ first_bad bad k
-first_kept bad k m some = go (eqb bad 0) refl
-  where
-    go : (t : Bool) → eqb bad 0 ≡ t → first_bad (first_bad bad k) m ≡ first_bad bad k
-    go true e = let none = eqb-true bad 0 e in rw (bad-first bad k none) (bad-before k m some)
-    go false e = let more = eqb-false bad 0 e in rw (bad-before bad k more) (bad-before bad m more)
+-- after cells of which one is bad, whatever follows
+first_kept : (bad : Option ℕ) (k : ℕ) (o : Option ℕ) → option_or (first_bad bad k) o ≡ first_bad bad k
+first_kept None k o = refl
+first_kept (Some b) k o = refl
 
 -- none follows
-first-none : (bad : ℕ) → first_bad bad 0 ≡ bad
-first-none bad = go (eqb bad 0) refl
-  where
-    go : (t : Bool) → eqb bad 0 ≡ t → first_bad bad 0 ≡ bad
-    go true e = let none = eqb-true bad 0 e in bad-first bad 0 none ∙ sym none
-    go false e = bad-before bad 0 (eqb-false bad 0 e)
+first-none : (bad : Option ℕ) → option_or bad None ≡ bad
+first-none None = refl
+first-none (Some b) = refl
 
-cells_bad : (from : ℕ) (s : Reading) (cs : List (List ℕ)) → (read_cells from s cs).row.bad ≡ first_bad s.row.bad (bad_in s.row.cells cs)
+cells_bad : (from : ℕ) (s : Reading) (cs : List (List ℕ)) → (read_cells from s cs).row.bad ≡ option_or s.row.bad (bad_in s.row.cells cs)
 cells_bad from s [] = sym (first-none s.row.bad)
 cells_bad from s (c ∷ cs) = cells_bad from (read_cell from s c) cs ∙ go (whole_cell c)
   where
     k : ℕ
     k = one_more s.row.cells
 
-    go : (cell : Cell) → first_bad (bad_after cell s.row.bad k) (bad_in k cs) ≡ first_bad s.row.bad (pick (is_number cell) (bad_in k cs) k)
-    go Empty = first_kept s.row.bad k (bad_in k cs) (more_some s.row.cells)
+    go : (cell : Cell) → option_or (bad_after cell s.row.bad k) (bad_in k cs) ≡ option_or s.row.bad (pick (is_number cell) (bad_in k cs) (Some k))
+    go Empty = first_kept s.row.bad k (bad_in k cs)
     go (Number v) = refl
-    go Bad = first_kept s.row.bad k (bad_in k cs) (more_some s.row.cells)
+    go Bad = first_kept s.row.bad k (bad_in k cs)
 
 -- there is none exactly where all are numbers
-pub bad-none : (k : ℕ) (cs : List (List ℕ)) → eqb (bad_in k cs) 0 ≡ all_numbers cs
+pub bad-none : (k : ℕ) (cs : List (List ℕ)) → is_none (bad_in k cs) ≡ all_numbers cs
 bad-none k [] = refl
 bad-none k (c ∷ cs) = go (is_number (whole_cell c)) (bad-none (one_more k) cs)
   where
-    go : (t : Bool) → eqb (bad_in (one_more k) cs) 0 ≡ all_numbers cs → eqb (pick t (bad_in (one_more k) cs) (one_more k)) 0 ≡ t and all_numbers cs
+    go : (t : Bool) → is_none (bad_in (one_more k) cs) ≡ all_numbers cs → is_none (pick t (bad_in (one_more k) cs) (Some (one_more k))) ≡ t and all_numbers cs
     go true follow = follow
-    go false follow = ne_eqb (one_more k) 0 (more_some k)
+    go false follow = refl
 
 -- a line read from nothing
 module _ (from : ℕ) (run : List ℕ) (cs : List (List ℕ)) where
   pub line_bad : (read_cells from (begin run) cs).row.bad ≡ bad_in 0 cs
-  line_bad = cells_bad from (begin run) cs ∙ bad-first 0 (bad_in 0 cs) refl
+  line_bad = cells_bad from (begin run) cs
 
   pub cells_good : good (read_cells from (begin run) cs).row ≡ all_numbers cs
-  cells_good = ap (λ k. eqb k 0) line_bad ∙ bad-none 0 cs
+  cells_good = ap is_none line_bad ∙ bad-none 0 cs
 
 -- ---- how many they are
 pub cells_count : (from : ℕ) (s : Reading) (cs : List (List ℕ)) → (read_cells from s cs).row.cells ≡ many_more s.row.cells cs

@@ -1,9 +1,6 @@
 -- Laws of a line of numbers read cell by cell (`specs/Rows.antt`), and the statement that its bytes come to its cells.
 --     more_few, more_many                  one cell more
---     bad-first, bad-before                the first that is no number
---     next_empty, next_number, next_bad    the line after a cell
---     kept_empty, kept_number, kept_bad    the run then
---     kept_length, kept_long               which keeps its length
+--     kept_length, kept_long               the run keeps its length
 --     read_ends, read_takes                one byte of a line
 --     row_is                               all bytes of a line: its cells
 -- Assumes nothing.
@@ -12,11 +9,11 @@ use mathlib.Core.Bool.{Bool, true, false}
 use mathlib.Core.List.{List, [], ◌∷◌}
 use mathlib.Core.Path.{◌≡◌, refl, ◌∙◌}
 use borrow.Author.Tests.{lt-ltb, le-ltb, eq-eqb, ne_eqb}
-use lib.ListN.{length, set, length-set}
+use lib.ListN.{length, length-set}
 use lib.Dec.{eqb}
 use Rattle.ranges.specs.Numbers.{pick}
 use Rattle.text.specs.Cells.{fed, with_byte}
-use Rattle.text.specs.Rows.{counted_to, one_more, first_bad, row_with, row_next, kept_as, kept_at, in_front, cells_in, Reading, begin, ended, within, read_byte, read_cell, read_cells}
+use Rattle.text.specs.Rows.{counted_to, one_more, row_with, row_next, kept_as, kept_at, in_front, cells_in, Reading, begin, ended, within, read_byte, read_cell, read_cells}
 use Rattle.text.proofs.Cells.{cell_is}
 use Rattle.text.specs.declared.cell.Cell.{Cell}
 use Rattle.text.specs.declared.cell.Cell.TheVariants.{Empty, Number, Bad}
@@ -31,43 +28,7 @@ pub more_many : (k : ℕ) → counted_to ≤ k → one_more k ≡ k - 1
 unfolding one_more
 more_many k le = rw (le-ltb k counted_to le)
 
--- ---- the first cell that is no number
-pub bad-first : (bad k : ℕ) → bad ≡ 0 → first_bad bad k ≡ k
-unfolding first_bad
-bad-first bad k none = rw (eq-eqb bad 0 none)
-
-pub bad-before : (bad k : ℕ) → (bad ≡ 0 → ⊥) → first_bad bad k ≡ bad
-unfolding first_bad
-bad-before bad k some = rw (ne_eqb bad 0 some)
-
--- ---- the line after a cell, and the run then
-module _ (row : Row) (cells : ℕ) (is : cells ≡ one_more row.cells) where
-  pub next_empty : {bad : ℕ} → bad ≡ first_bad row.bad cells → row.cell ≡ Empty → record { cell = Empty; cells = cells; bad = bad } ≡ row_next row
-  unfolding row_next
-  next_empty first e = rw (first, is, e)
-
-  pub next_number : (v : ℕ) → row.cell ≡ Number v → record { cell = Empty; cells = cells; bad = row.bad } ≡ row_next row
-  unfolding row_next
-  next_number v e = rw (is, e)
-
-  pub next_bad : {bad : ℕ} → bad ≡ first_bad row.bad cells → row.cell ≡ Bad → record { cell = Empty; cells = cells; bad = bad } ≡ row_next row
-  unfolding row_next
-  next_bad first e = rw (first, is, e)
-
-module _ (row : Row) (from : ℕ) (run : List ℕ) where
-  pub kept_empty : row.cell ≡ Empty → run ≡ kept_at row from run
-  unfolding kept_at
-  kept_empty e = rw e
-
-  pub kept_number : (v : ℕ) → row.cell ≡ Number v → set run (from + row.cells) v ≡ kept_at row from run
-  unfolding kept_at
-  kept_number v e = rw e
-
-  pub kept_bad : row.cell ≡ Bad → run ≡ kept_at row from run
-  unfolding kept_at
-  kept_bad e = rw e
-
--- the run keeps its length
+-- ---- the run keeps its length
 pub kept_length : (cell : Cell) (at : ℕ) (run : List ℕ) → length (kept_as cell at run) ≡ length run
 kept_length Empty at run = refl
 kept_length (Number v) at run = length-set run at v

@@ -1,7 +1,8 @@
 -- A line of numbers, read cell by cell. `cells_in` cuts a whole line into its cells; `read_cells` says what they come
 -- to. `read_byte` says the same byte by byte, as the code goes; that the two agree is `row_is` of `proofs/Rows.antt`.
 -- Assumes nothing: these are definitions.
-use Rattle.std.specs.Prelude.{ℕ, ◌+◌, ◌-◌, Bool, true, List, [], ◌∷◌, set, ltb, eqb}
+use Rattle.std.specs.Prelude.{ℕ, ◌+◌, ◌-◌, Bool, true, List, [], ◌∷◌, set, ltb, eqb, Option, Some, None, is_none}
+use Rattle.std.specs.Option.{option_or}
 use Rattle.ranges.specs.Numbers.{pick, ◌and◌}
 use Rattle.text.specs.Cells.{with_byte, whole_cell, is_number, value_of}
 use Rattle.text.specs.declared.cell.Cell.{Cell}
@@ -32,7 +33,7 @@ values_of (c ∷ cs) = value_of c ∷ values_of cs
 -- ---- what has been read of a line
 -- nothing
 abbrev pub fresh : Row
-fresh = record { cell = Empty; cells = 0; bad = 0 }
+fresh = record { cell = Empty; cells = 0; bad = None }
 
 -- cells are counted exactly up to here, and past that to and fro, even or odd as it should be
 abbrev pub counted_to : ℕ
@@ -51,24 +52,24 @@ abbrev pub many_more : ℕ → List (List ℕ) → ℕ
 many_more k [] = k
 many_more k (c ∷ cs) = many_more (one_more k) cs
 
--- the first cell after k cells that is no number, counted from 1 as above, or 0
-abbrev pub bad_in : ℕ → List (List ℕ) → ℕ
-bad_in k [] = 0
-bad_in k (c ∷ cs) = pick (is_number (whole_cell c)) (bad_in (one_more k) cs) (one_more k)
+-- the first cell after k cells that is no number, counted from 1 as above
+abbrev pub bad_in : ℕ → List (List ℕ) → Option ℕ
+bad_in k [] = None
+bad_in k (c ∷ cs) = pick (is_number (whole_cell c)) (bad_in (one_more k) cs) (Some (one_more k))
 
--- the first cell that is no number, where cell k is none and bad is the first before it, or 0
-unfoldable pub first_bad : ℕ → ℕ → ℕ
-first_bad bad k = pick (eqb bad 0) k bad
+-- the first cell that is no number, where cell k is none and bad is the first before it
+abbrev pub first_bad : Option ℕ → ℕ → Option ℕ
+first_bad bad k = option_or bad (Some k)
 
 -- the same after one cell more, the k-th
-abbrev pub bad_after : Cell → ℕ → ℕ → ℕ
+abbrev pub bad_after : Cell → Option ℕ → ℕ → Option ℕ
 bad_after Empty bad k = first_bad bad k
 bad_after (Number v) bad k = bad
 bad_after Bad bad k = first_bad bad k
 
 -- every cell that has ended is a number
 abbrev pub good : Row → Bool
-good row = eqb row.bad 0
+good row = is_none row.bad
 
 -- a run of numbers with a cell's number at a place; one past the run's end changes nothing
 abbrev pub kept_as : Cell → ℕ → List ℕ → List ℕ

@@ -1,17 +1,17 @@
 // A line of numbers, cell by cell, as far as its bytes have come. What parts the cells of a line, and what ends it,
 // is the caller's to say.
 ghost use Rattle.std.specs.Prelude.{◌≡◌, set};
-ghost use Rattle.text.specs.Rows.{fresh, one_more, first_bad, row_with, row_next, kept_at};
+ghost use Rattle.text.specs.Rows.{fresh, one_more, row_with, row_next, kept_at};
 
 use crate::cell::{Cell, with_byte};
 
 // What has been read of a line: the cell that is being read, how many cells have ended, and the first of them that was
-// no number, counted from 1, or 0 while there is none.
+// no number, counted from 1.
 #[derive(Clone, Copy)]
 pub struct Row {
     pub cell: Cell,
     pub cells: u32,
-    pub bad: u32,
+    pub bad: Option<u32>,
 }
 
 // Makes a line of which nothing has been read.
@@ -21,7 +21,7 @@ pub fn row_start() -> Row
     Row {
         cell: Cell::Empty,
         cells: 0,
-        bad: 0,
+        bad: None,
     }
 }
 
@@ -46,25 +46,14 @@ fn one_more(cells: u32) -> u32
 pub fn row_byte(row: Row, byte: u8) -> Row
     ensures { result ≡ row_with row byte }
 {
-    let cell = row.cell;
     Row {
-        cell: with_byte(cell, byte),
-        cells: row.cells,
-        bad: row.bad,
+        cell: with_byte(row.cell, byte),
+        ..row
     }
 }
 
-// Says which cell is the first that is no number, where cell k is none and `bad` is the first before it, or 0.
-fn first_bad(bad: u32, k: u32) -> u32
-    ensures { result ≡ first_bad bad k }
-{
-    if bad == 0 {
-        return k;
-    }
-    bad
-}
-
-// Writes a number to a place of a run; past the run's end it changes nothing.
+// Writes a number to a place of a run; past the run's end it changes nothing. (A test, and no `get_mut`, which does not
+// say what the run holds after a write.)
 fn keep(run: &mut [u32], at: usize, v: u32)
     ensures { run.new ≡ set run.old at v }
 {
@@ -75,31 +64,26 @@ fn keep(run: &mut [u32], at: usize, v: u32)
 
 // Ends the present cell and gives the line after it. Where it is a number, it is written to its place in the run: as
 // far past `from` as there are cells before it. Where it is none, or its place is past the run's end, the run stays.
+#[tactic(auto, unfolding(crate::specs::Rows::row_next, crate::specs::Rows::kept_at))]
 pub fn row_next(row: Row, from: u32, run: &mut [u32]) -> Row
     ensures value { result ≡ row_next row }
     ensures run_after { run.new ≡ kept_at row from run.old }
 {
     let cells = one_more(row.cells);
     let at = from as usize + row.cells as usize;
-    let cell = row.cell;
-    match cell {
-        Cell::Empty => Row {
-            cell: Cell::Empty,
-            cells,
-            bad: first_bad(row.bad, cells),
-        },
+    let ended = Row {
+        cell: Cell::Empty,
+        cells,
+        ..row
+    };
+    match row.cell {
         Cell::Number(v) => {
             keep(run, at, v);
-            Row {
-                cell: Cell::Empty,
-                cells,
-                bad: row.bad,
-            }
+            ended
         }
-        Cell::Bad => Row {
-            cell: Cell::Empty,
-            cells,
-            bad: first_bad(row.bad, cells),
+        Cell::Empty | Cell::Bad => Row {
+            bad: row.bad.or(Some(cells)),
+            ..ended
         },
     }
 }

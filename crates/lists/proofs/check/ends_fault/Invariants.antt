@@ -1,6 +1,5 @@
--- `lists::check::ends_fault` meets its contract. At the loop's head no rule below i has a void field (`Search.antt`); the measure is the rules left.
+-- `lists::check::ends_fault` meets its contract. At the loop's head no rule below i has a void field (`Search.antt`).
 -- Assumes nothing.
-use Prim.Native.Nat.{◌-◌}
 use mathlib.Core.Bool.{false}
 use Rattle.lists.specs.Rules.{listed, rules_in}
 use Rattle.lists.proofs.Search.{Answered}
@@ -9,6 +8,3 @@ use Rattle.lists.proofs.check.ends_fault.Given as goal
 
 abbrev pub invariant-loop-i : goal.invariant-loop-i
 invariant-loop-i l = Answered (bad (listed l.shape l.list)) false (rules_in (listed l.shape l.list)) l.i
-
-abbrev pub decreases-loop-i : goal.decreases-loop-i
-decreases-loop-i l = l.n - l.i

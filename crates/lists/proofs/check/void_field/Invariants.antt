@@ -1,6 +1,5 @@
--- `lists::check::void_field` meets its contract. At the loop's head no field below f is void (`Search.antt`); the measure is the fields left.
+-- `lists::check::void_field` meets its contract. At the loop's head no field below f is void (`Search.antt`).
 -- Assumes nothing.
-use Prim.Native.Nat.{◌-◌}
 use mathlib.Core.Bool.{false}
 use Rattle.lists.specs.Rules.{listed, is_void}
 use Rattle.lists.proofs.Search.{Answered}
@@ -8,6 +7,3 @@ use Rattle.lists.proofs.check.void_field.Given as goal
 
 abbrev pub invariant-loop-f : goal.invariant-loop-f
 invariant-loop-f l = Answered (is_void (listed l.shape l.list) l.i) false l.shape.d l.f
-
-abbrev pub decreases-loop-f : goal.decreases-loop-f
-decreases-loop-f l = l.d - l.f

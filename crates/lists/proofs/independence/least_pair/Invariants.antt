@@ -1,7 +1,5 @@
--- `lists::independence::least_pair` meets its contract. At the loop's head no rule below i has a partner (`Search.antt`); the measure is the
--- rules left.
+-- `lists::independence::least_pair` meets its contract. At the loop's head no rule below i has a partner (`Search.antt`).
 -- Assumes nothing.
-use Prim.Native.Nat.{◌-◌}
 use mathlib.Core.Bool.{false}
 use Rattle.lists.specs.Rules.{listed, rules_in}
 use Rattle.lists.specs.Independence.{has_partner}
@@ -10,6 +8,3 @@ use Rattle.lists.proofs.independence.least_pair.Given as goal
 
 abbrev pub invariant-loop-i : goal.invariant-loop-i
 invariant-loop-i l = Answered (has_partner (listed l.shape l.list)) false (rules_in (listed l.shape l.list)) l.i
-
-abbrev pub decreases-loop-i : goal.decreases-loop-i
-decreases-loop-i l = l.n - l.i

@@ -1,15 +1,8 @@
 -- The answers that the check does not find alone.
-use native.Mathlib.Omega.{arith}
 use Rattle.lists.specs.Independence.{meet}
 use Rattle.lists.proofs.Rules.{has_field}
-use Rattle.lists.proofs.Search.{answered-none, answered_more, answered-all, answered-not}
+use Rattle.lists.proofs.Search.{answered-all, answered-not}
 use Rattle.lists.proofs.independence.meet_all.Goals as goal
-
-pub overflow_cast-d : goal.overflow_cast-d
-overflow_cast-d c = omega arith
-
-pub loop-f-init : goal.loop-f-init
-loop-f-init c = answered-none _ _ _
 
 pub meet_at-requires : goal.meet_at-requires
 meet_at-requires c =
@@ -19,15 +12,6 @@ meet_at-requires c =
 pub returns-then-not-meet_at : goal.returns-then-not-meet_at
 unfolding meet
 returns-then-not-meet_at c = answered-not c.loop-f.invariant c.loop-f-test.true c.meet_at.ensures c.if-not-meet_at.true
-
-pub overflow_add-f : goal.overflow_add-f
-overflow_add-f c = omega arith
-
-pub loop-f-smaller : goal.loop-f-smaller
-loop-f-smaller c = omega arith
-
-pub loop-f-preserved : goal.loop-f-preserved
-loop-f-preserved c = answered_more c.loop-f.invariant c.loop-f-test.true c.meet_at.ensures c.if-not-meet_at.false
 
 -- they meet in all
 pub returns : goal.returns

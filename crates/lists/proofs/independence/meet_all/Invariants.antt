@@ -1,7 +1,5 @@
--- `lists::independence::meet_all` meets its contract. At the loop's head the rules meet in every field below f (`Search.antt`); the measure is
--- the fields left.
+-- `lists::independence::meet_all` meets its contract. At the loop's head the rules meet in every field below f (`Search.antt`).
 -- Assumes nothing.
-use Prim.Native.Nat.{◌-◌}
 use mathlib.Core.Bool.{true}
 use Rattle.lists.specs.Rules.{listed}
 use Rattle.lists.specs.Independence.{meet_at}
@@ -10,6 +8,3 @@ use Rattle.lists.proofs.independence.meet_all.Given as goal
 
 abbrev pub invariant-loop-f : goal.invariant-loop-f
 invariant-loop-f l = Answered (meet_at (listed l.shape l.list) l.i l.j) true l.shape.d l.f
-
-abbrev pub decreases-loop-f : goal.decreases-loop-f
-decreases-loop-f l = l.d - l.f

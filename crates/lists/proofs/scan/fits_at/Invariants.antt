@@ -1,6 +1,5 @@
--- `lists::scan::fits_at` meets its contract. At the loop's head every field below f is inside (`Search.antt`); the measure is the fields left.
+-- `lists::scan::fits_at` meets its contract. At the loop's head every field below f is inside (`Search.antt`).
 -- Assumes nothing.
-use Prim.Native.Nat.{◌-◌}
 use mathlib.Core.Bool.{true}
 use Rattle.lists.specs.Rules.{listed}
 use Rattle.lists.specs.FirstMatch.{inside_at}
@@ -9,6 +8,3 @@ use Rattle.lists.proofs.scan.fits_at.Given as goal
 
 abbrev pub invariant-loop-f : goal.invariant-loop-f
 invariant-loop-f l = Answered (inside_at (listed l.shape l.list) l.header l.i) true l.shape.d l.f
-
-abbrev pub decreases-loop-f : goal.decreases-loop-f
-decreases-loop-f l = l.d - l.f
