@@ -5,7 +5,6 @@
 --     shaped                                                     a list that meets none of 1, 2, 3
 --     shape_few                                                  the number of a shape's refusal is at most 3
 --     shape_of, ends_of                                          a list that meets none of 1 to 4 meets none of 1, 2, 3, and not 4
---     by-refused, by-stands, by_shaped, by-listed                the same, of a refusal as worked out by a callee
 -- Assumes nothing.
 use Prim.Native.Nat.{ℕ, ◌*◌, ◌%◌, ◌≤◌, ◌<◌}
 use mathlib.Core.Bool.{Bool, true, false, not}
@@ -15,10 +14,9 @@ use lib.ListN.{length}
 use lib.Dec.{ltb, eqb}
 use borrow.Author.Tests.{lt-ltb, le-ltb, eq-eqb, ne_eqb, ltb-false, eqb-true}
 use Rattle.ranges.specs.Numbers.{pick, ◌or◌}
-use Rattle.ranges.specs.Refusals.{none, refused, stands, BadFields, BadLength, TooManyRules}
-use Rattle.ranges.specs.declared.refusal.Refusal.{Refusal}
-use Rattle.ranges.proofs.Numbers.{never}
-use Rattle.ranges.proofs.InARow.{else_none}
+use Rattle.ranges.specs.Refusals.{none, refused, number_in}
+use Rattle.ranges.specs.declared.refusal.Cause.TheVariants.{BadFields, BadLength, TooManyRules}
+use Rattle.ranges.proofs.InARow.{not-none, else_none}
 use Rattle.lists.specs.Rules.{Rules, fields_of, rules_in}
 use Rattle.lists.specs.Faults.{shape_fault, ends_fault, list_fault}
 use Rattle.lists.proofs.Rules.{Shaped, whole_length, length_whole}
@@ -66,17 +64,17 @@ module _ (R : Rules) (m : ℕ) (is_n : m ≡ rules_in R) (some : 1 ≤ fields_of
   counted_stands whole few_rules = shape_stands R some few (rw is_n at whole) (rw is_n at few_rules)
 
 -- a list that meets none of 1, 2, 3
-pub shaped : (R : Rules) → (shape_fault R).number ≡ 0 → Shaped R
+pub shaped : (R : Rules) → shape_fault R ≡ none → Shaped R
 unfolding shape_fault
 shaped R = go (ltb (fields_of R) 1) (ltb 8 (fields_of R)) (eqb (length R.numbers % (fields_of R * 2)) 0) (ltb 1024 (rules_in R)) refl refl refl refl
   where
     go : (a b e g : Bool) → ltb (fields_of R) 1 ≡ a → ltb 8 (fields_of R) ≡ b → eqb (length R.numbers % (fields_of R * 2)) 0 ≡ e → ltb 1024 (rules_in R) ≡ g
-        → (pick (a or b) (refused BadFields) (pick (not e) (refused BadLength) (pick g (refused TooManyRules) none))).number ≡ 0
+        → (pick (a or b) (refused BadFields) (pick (not e) (refused BadLength) (pick g (refused TooManyRules) none))) ≡ none
         → Shaped R
-    go true b e g p q r s z = never (sym z)
-    go false true e g p q r s z = never (sym z)
-    go false false false g p q r s z = absurd (omega arith)
-    go false false true true p q r s z = absurd (omega arith)
+    go true b e g p q r s z = absurd (not-none z)
+    go false true e g p q r s z = absurd (not-none z)
+    go false false false g p q r s z = absurd (not-none z)
+    go false false true true p q r s z = absurd (not-none z)
     go false false true false p q r s z =
         record {
           some_fields = ltb-false (fields_of R) 1 p;
@@ -85,11 +83,11 @@ shaped R = go (ltb (fields_of R) 1) (ltb 8 (fields_of R)) (eqb (length R.numbers
           few_rules = ltb-false 1024 (rules_in R) s;
         }
 
-pub shape_few : (R : Rules) → (shape_fault R).number ≤ 3
+pub shape_few : (R : Rules) → number_in (shape_fault R) ≤ 3
 unfolding shape_fault
 shape_few R = go (ltb (fields_of R) 1) (ltb 8 (fields_of R)) (eqb (length R.numbers % (fields_of R * 2)) 0) (ltb 1024 (rules_in R))
   where
-    go : (a b e g : Bool) → (pick (a or b) (refused BadFields) (pick (not e) (refused BadLength) (pick g (refused TooManyRules) none))).number ≤ 3
+    go : (a b e g : Bool) → number_in (pick (a or b) (refused BadFields) (pick (not e) (refused BadLength) (pick g (refused TooManyRules) none))) ≤ 3
     go true b e g = omega arith
     go false true e g = omega arith
     go false false false g = omega arith
@@ -97,26 +95,9 @@ shape_few R = go (ltb (fields_of R) 1) (ltb 8 (fields_of R)) (eqb (length R.numb
     go false false true false = omega arith
 
 -- ---- 1 to 4
-module _ (R : Rules) (z : (list_fault R).number ≡ 0) where
-  pub shape_of : (shape_fault R).number ≡ 0
+module _ (R : Rules) (z : list_fault R ≡ none) where
+  pub shape_of : shape_fault R ≡ none
   shape_of = ((else_none (shape_fault R) (ends_fault R)).0 z).0
 
-  pub ends_of : (ends_fault R).number ≡ 0
+  pub ends_of : ends_fault R ≡ none
   ends_of = ((else_none (shape_fault R) (ends_fault R)).0 z).1
-
--- ---- as the code works it out: x is the refusal of a callee
-module _ {A : Type 0} (x y : Refusal) (is_y : x ≡ y) where
-  -- it refuses, and is the answer as `says` has it
-  pub by-refused : (says : Refusal → A) (a : A) → (x.number ≡ 0 → ⊥) → says x ≡ pick (stands y) a (says y)
-  by-refused says a ne = rw (← is_y, ne_eqb x.number 0 ne)
-
-  -- it does not, and the answer is a
-  pub by-stands : (a b : A) → x.number ≡ 0 → a ≡ pick (stands y) a b
-  by-stands a b z = rw (← is_y, eq-eqb x.number 0 z)
-
-module _ (R : Rules) (x : Refusal) where
-  pub by_shaped : x ≡ shape_fault R → x.number ≡ 0 → Shaped R
-  by_shaped is_x z = shaped R (rw is_x at z)
-
-  pub by-listed : x ≡ list_fault R → x.number ≡ 0 → Shaped R
-  by-listed is_x z = shaped R (shape_of R (rw is_x at z))

@@ -1,6 +1,6 @@
 -- Laws of a list that is lent in full (02, W7; `specs/Faults.antt`, `room_fault`), and of its first rules, the part in use (`specs/Rules.antt`, `first_rules`).
 --     room_no_fields, room_many_fields, room_other_length, room_stands      1, 2, and none of them
---     roomy, roomy_told, roomy_none, room_few                    a list that meets neither
+--     roomy, roomy_none, room_few                                a list that meets neither
 --     used_ends, used_within                                     where the part in use ends, and that the list has it
 --     used_rules, used_shaped                                    the first k rules are k, and their shape stands
 -- Assumes nothing.
@@ -14,9 +14,9 @@ use lib.Seq.{length-take-le}
 use lib.Dec.{ltb, eqb}
 use borrow.Author.Tests.{lt-ltb, le-ltb, eq-eqb, ne_eqb, ltb-false, eqb-true}
 use Rattle.ranges.specs.Numbers.{pick, ◌or◌}
-use Rattle.ranges.specs.Refusals.{none, refused, BadFields, BadLength}
-use Rattle.ranges.specs.declared.refusal.Refusal.{Refusal}
-use Rattle.ranges.proofs.Numbers.{never}
+use Rattle.ranges.specs.Refusals.{none, refused, number_in}
+use Rattle.ranges.specs.declared.refusal.Cause.TheVariants.{BadFields, BadLength}
+use Rattle.ranges.proofs.InARow.{not-none}
 use Rattle.lists.specs.Limits.{most_rules, full_length}
 use Rattle.lists.specs.Rules.{Rules, fields_of, rules_in, offset_of, first_rules, Roomy, Shaped}
 use Rattle.lists.specs.Faults.{room_fault}
@@ -42,16 +42,16 @@ module _ (R : Rules) where
       room_stands long = rw (le-ltb (fields_of R) 1 some, le-ltb 8 (fields_of R) few, eq-eqb (length R.numbers) (full_length (fields_of R)) long)
 
 -- ---- a list that meets neither
-pub roomy : (R : Rules) → (room_fault R).number ≡ 0 → Roomy R
+pub roomy : (R : Rules) → room_fault R ≡ none → Roomy R
 unfolding room_fault
 roomy R = go (ltb (fields_of R) 1) (ltb 8 (fields_of R)) (eqb (length R.numbers) (full_length (fields_of R))) refl refl refl
   where
     go : (a b e : Bool) → ltb (fields_of R) 1 ≡ a → ltb 8 (fields_of R) ≡ b → eqb (length R.numbers) (full_length (fields_of R)) ≡ e
-        → (pick (a or b) (refused BadFields) (pick e none (refused BadLength))).number ≡ 0
+        → (pick (a or b) (refused BadFields) (pick e none (refused BadLength))) ≡ none
         → Roomy R
-    go true b e p q r z = never (sym z)
-    go false true e p q r z = never (sym z)
-    go false false false p q r z = absurd (omega arith)
+    go true b e p q r z = absurd (not-none z)
+    go false true e p q r z = absurd (not-none z)
+    go false false false p q r z = absurd (not-none z)
     go false false true p q r z =
         record {
           some_fields = ltb-false (fields_of R) 1 p;
@@ -59,18 +59,14 @@ roomy R = go (ltb (fields_of R) 1) (ltb 8 (fields_of R)) (eqb (length R.numbers)
           long = eqb-true (length R.numbers) (full_length (fields_of R)) r;
         }
 
--- x is the refusal as a callee gave it
-pub roomy_told : (R : Rules) (x : Refusal) → x ≡ room_fault R → x.number ≡ 0 → Roomy R
-roomy_told R x is_x z = roomy R (rw is_x at z)
-
 pub roomy_none : {R : Rules} → Roomy R → room_fault R ≡ none
 roomy_none {R} h = room_stands R h.some_fields h.few_fields h.long
 
-pub room_few : (R : Rules) → (room_fault R).number ≤ 2
+pub room_few : (R : Rules) → number_in (room_fault R) ≤ 2
 unfolding room_fault
 room_few R = go (ltb (fields_of R) 1) (ltb 8 (fields_of R)) (eqb (length R.numbers) (full_length (fields_of R)))
   where
-    go : (a b e : Bool) → (pick (a or b) (refused BadFields) (pick e none (refused BadLength))).number ≤ 2
+    go : (a b e : Bool) → number_in (pick (a or b) (refused BadFields) (pick e none (refused BadLength))) ≤ 2
     go true b e = omega arith
     go false true e = omega arith
     go false false false = omega arith

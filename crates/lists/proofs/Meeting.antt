@@ -21,7 +21,6 @@ use Rattle.lists.specs.Rules.{Rules, fields_of, rules_in, offset_of, low_of, end
 use Rattle.lists.specs.Headers.{header_length}
 use Rattle.lists.specs.FirstMatch.{fits}
 use Rattle.lists.specs.Independence.{meet_at, meet, partners, partner_of, has_partner, paired, pair_of}
-use Rattle.lists.specs.declared.independence.Pair.TheVariants.{Independent, Both}
 use Rattle.lists.specs.Found.{found_below}
 use Rattle.lists.proofs.Search.{Answered, answered_more, answered-least, answered_end, answered_found, answered_nothing, found_is}
 use Rattle.lists.proofs.Voids.{SoundRule}
@@ -61,7 +60,7 @@ module _ (R : Rules) (i : ℕ) where
 
 -- ---- the search for a pair: no rule below i has a partner
 module _ (R : Rules) (i : ℕ) (told : Answered (has_partner R) false (rules_in R) i) where
-  pub pair_both : {j : ℕ} → Some j ≡ found_below (rules_in R) (partner_of R i) → i < rules_in R → Both i j ≡ pair_of R
+  pub pair_both : {j : ℕ} → Some j ≡ found_below (rules_in R) (partner_of R i) → i < rules_in R → Some (i, j) ≡ pair_of R
   unfolding paired
   pair_both found lt =
       let is = found_is found in
@@ -69,7 +68,7 @@ module _ (R : Rules) (i : ℕ) (told : Answered (has_partner R) false (rules_in 
       let here = answered-least told lt refl has in
       rw (← here, lt-ltb i (rules_in R) lt, is.0)
 
-  pub pair_none : rules_in R ≤ i → Independent ≡ pair_of R
+  pub pair_none : rules_in R ≤ i → None ≡ pair_of R
   unfolding paired
   pair_none past =
       let n = rules_in R in

@@ -8,18 +8,18 @@
 use Prim.Native.Nat.{ℕ, ◌<◌}
 use mathlib.Core.Bool.{Bool, true, false}
 use mathlib.Core.Logic.{◌↔◌}
-use mathlib.Core.Path.{◌≡◌, refl}
+use mathlib.Core.Path.{◌≡◌, refl, ap}
 use native.Mathlib.Omega.{arith}
 use lib.Dec.{ltb}
 use borrow.Author.Tests.{lt-ltb, le-ltb, ltb-true, ltb-false}
 use Rattle.ranges.specs.Numbers.{◌and◌, least}
-use Rattle.ranges.specs.Refusals.{stands}
+use Rattle.std.specs.Prelude.{Ok, Some, None}
 use Rattle.ranges.proofs.Numbers.{never, picked, not_picked, and_left, and_right, true-not-false, least_is, least-none, least_hit, least_under}
 use Rattle.lists.specs.Rules.{Rules, rules_in}
 use Rattle.lists.specs.Faults.{list_fault}
 use Rattle.lists.specs.Independence.{meet, partners, partner_of, has_partner, paired, pair_of, independence_of}
-use Rattle.lists.specs.declared.independence.Pair.TheVariants.{Independent, Both, Refused}
-use Rattle.lists.proofs.Sound.{Accepted, stands_accepted, accepted_none}
+use Rattle.ranges.proofs.InARow.{else_none}
+use Rattle.lists.proofs.Sound.{Accepted, list_accepted, accepted_none}
 
 -- ---- which rules meet, by the least pair
 module _ (R : Rules) (i : ℕ) where
@@ -81,15 +81,16 @@ module _ (R : Rules) {Share : ℕ → ℕ → Type 0} (when : WhenMeet R Share) 
       let none_is = least-none (partners R i) n (λ l lt. not_partner s i l rule lt (λ later. apart l later lt)) in
       le-ltb (least n (partners R i)) n (omega arith)
 
-  pub independent_share_iff : (independence_of R ≡ Independent) ↔ (Accepted R × ((i j : ℕ) → i < j → j < rules_in R → Share i j → ⊥))
+  pub independent_share_iff : (independence_of R ≡ Ok None) ↔ (Accepted R × ((i j : ℕ) → i < j → j < rules_in R → Share i j → ⊥))
   unfolding paired
   independent_share_iff =
       let n = rules_in R in (
         λ e.
-            let told = picked (pair_of R) (Refused (list_fault R)) Independent (stands (list_fault R)) e (λ r. never (cc)) in
-            let past = (not_picked (Both (paired R) (partner_of R (paired R))) Independent Independent (ltb (paired R) n) told.1 (λ r. never (cc))).0 in
+            let told = (else_none (list_fault R) (Ok (pair_of R))).0 e in
+            let is-none : pair_of R ≡ None = cc told.1 in
+            let past = (not_picked (Some (paired R, partner_of R (paired R))) None None (ltb (paired R) n) is-none (λ r. never (cc))).0 in
             let over = ltb-false (paired R) n past in
-            (stands_accepted R told.0, λ i j after lt. not_met i j (paired_past R i j (omega arith) after lt)),
+            (list_accepted R told.0, λ i j after lt. not_met i j (paired_past R i j (omega arith) after lt)),
         λ p.
             let alone = least-none (has_partner R) n (λ i lt. partnerless p.0 i lt (p.1 i)) in
             rw (accepted_none R p.0, alone, le-ltb n n (omega arith)),
@@ -123,14 +124,16 @@ module _ (R : Rules) {Share : ℕ → ℕ → Type 0} (when : WhenMeet R Share) 
       let has : has_partner R i ≡ true = rw partner (lt-ltb j n p.rule) in
       (partner, least_is (has_partner R) n i i-rule has (λ k lt. partnerless p.accepted k (omega arith) (λ l later rule. p.rules_before k l lt later rule)))
 
-  pub pair_share_iff : (i j : ℕ) → (independence_of R ≡ Both i j) ↔ LeastPair R Share i j
+  pub pair_share_iff : (i j : ℕ) → (independence_of R ≡ Ok (Some (i, j))) ↔ LeastPair R Share i j
   pair_share_iff i j = (
     λ e.
-        let told = picked (pair_of R) (Refused (list_fault R)) (Both i j) (stands (list_fault R)) e (λ r. never (cc)) in
-        let found = picked (Both (paired R) (partner_of R (paired R))) Independent (Both i j) (ltb (paired R) (rules_in R)) told.1 (λ r. never (cc)) in
-        let is_i : paired R ≡ i = cc found.1 in
-        let is-j : partner_of R (paired R) ≡ j = cc found.1 in
-        moved (paired R) (partner_of R (paired R)) is_i is-j (pair_here (stands_accepted R told.0) (ltb-true (paired R) (rules_in R) found.0)),
+        let told = (else_none (list_fault R) (Ok (pair_of R))).0 e in
+        let is_pair : pair_of R ≡ Some (i, j) = cc told.1 in
+        let found = picked (Some (paired R, partner_of R (paired R))) None (Some (i, j)) (ltb (paired R) (rules_in R)) is_pair (λ r. never (cc)) in
+        let same : (paired R, partner_of R (paired R)) ≡ (i, j) = cc found.1 in
+        let is_i : paired R ≡ i = ap (λ (p : ℕ × ℕ). p.0) same in
+        let is-j : partner_of R (paired R) ≡ j = ap (λ (p : ℕ × ℕ). p.1) same in
+        moved (paired R) (partner_of R (paired R)) is_i is-j (pair_here (list_accepted R told.0) (ltb-true (paired R) (rules_in R) found.0)),
     λ p.
         let one = pair_one i j p in
         let i-rule : i < rules_in R = omega (arith, p.after, p.rule) in

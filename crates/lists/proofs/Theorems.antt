@@ -29,19 +29,20 @@ use Prim.Native.Nat.{ℕ, ◌^◌, ◌≤◌, ◌<◌}
 use mathlib.Core.Bool.{true, false}
 use mathlib.Core.List.{List}
 use mathlib.Core.Logic.{◌↔◌}
-use mathlib.Core.Path.{◌≡◌, ap, ◌∙◌}
+use mathlib.Core.Path.{◌≡◌, sym, ap, ◌∙◌}
 use native.Mathlib.Omega.{arith}
 use lib.Dec.{ltb}
 use lib.ListN.{length, get_or}
-use borrow.Author.Tests.{lt-ltb, le-ltb, ltb-true, ltb-false, le-leb, lt-leb, leb-true, leb-false, eqb-true}
-use Rattle.std.specs.Prelude.{Some}
+use borrow.Author.Tests.{lt-ltb, le-ltb, ltb-true, le-leb, lt-leb, leb-true, leb-false}
+use Rattle.std.specs.Prelude.{Ok, Err, Some, None}
 use Rattle.ranges.specs.Numbers.{least}
 use Rattle.ranges.specs.Sides.{end_of}
-use Rattle.ranges.specs.Refusals.{none, stands, refused_at, LowAboveHigh}
+use Rattle.ranges.specs.Refusals.{Fault, none, refused_at, refusing, unless, number_in}
+use Rattle.ranges.specs.declared.refusal.Cause.TheVariants.{LowAboveHigh}
 use Rattle.ranges.specs.declared.refusal.Refusal.{Refusal}
-use Rattle.ranges.specs.declared.refusal.Count.TheVariants.{Is, Refused as CountRefused}
+use Rattle.ranges.proofs.InARow.{not-none, else_none, else_iff}
 use Rattle.ranges.proofs.Sides.{past_one}
-use Rattle.ranges.proofs.Numbers.{never, picked, not_picked, and_left, and_right, least_is, least-none, least_hit, least_under}
+use Rattle.ranges.proofs.Numbers.{picked, and_left, and_right, least_is, least-none, least_hit, least_under}
 use Rattle.lists.specs.declared.shape.Shape.{Shape}
 use Rattle.lists.specs.Rules.{Rules, Shaped, shape_of, flag_of, listed, is_date, fields_of, rules_in, low_of, high_of, ends_at, is_void}
 use Rattle.lists.specs.Found.{found_below}
@@ -52,13 +53,12 @@ use Rattle.lists.specs.FirstMatch.{fits, first_match}
 use Rattle.lists.specs.Scan.{fits_in, match_of, scan_of}
 use Rattle.lists.specs.Edges.{edge_of, rule_edge}
 use Rattle.lists.specs.Independence.{meet, independence_of}
-use Rattle.lists.specs.declared.scan.Match.TheVariants.{Rule, Nothing, Refused as MatchRefused}
-use Rattle.lists.specs.declared.independence.Pair.TheVariants.{Independent, Both}
+use Rattle.lists.proofs.Search.{found_is, found_none}
 use Rattle.lists.proofs.Dates.{date_flag, dates_same, date_ends, ends_plain}
 use Rattle.lists.proofs.InList.{Listed, in_told, in_yes}
 use Rattle.lists.proofs.Faults.{shaped, shape_few}
 use Rattle.lists.proofs.Voids.{bad, bad_field, ends_4, SoundRule, not-bad}
-use Rattle.lists.proofs.Sound.{Accepted, stands_accepted, accepted_none, shaped_none, sound_answered}
+use Rattle.lists.proofs.Sound.{Accepted, list_accepted, accepted_none, shaped_none, sound_answered}
 use Rattle.lists.proofs.Fitting.{Inside, fits_inside, inside_fits, fits_same, first_same}
 use Rattle.lists.proofs.Edges.{AtEdge, edge_at_iff, edge_same}
 use Rattle.lists.proofs.Meeting.{shared_header, shared_length, shared_below, fits-meet, meet-fits}
@@ -67,9 +67,9 @@ pub use Rattle.lists.proofs.Pairs.{LeastPair}
 
 -- ---- T6
 -- a check answers n exactly when none of 1 to 4 applies: it refuses nothing else, and lets none of them pass
-pub check_is_n_iff : (R : Rules) → (check_of R ≡ Is (rules_in R)) ↔ Accepted R
+pub check_is_n_iff : (R : Rules) → (check_of R ≡ Ok (rules_in R)) ↔ Accepted R
 check_is_n_iff R = (
-  λ e. stands_accepted R (picked (Is (rules_in R)) (CountRefused (list_fault R)) (Is (rules_in R)) (stands (list_fault R)) e (λ r. never (cc))).0,
+  λ e. list_accepted R ((else_none (list_fault R) (Ok (rules_in R))).0 e).0,
   λ s. rw (accepted_none R s),
 )
 
@@ -103,41 +103,39 @@ unfolding ends_fault bad_rule
 ends_least R i f s e =
     let b = least (rules_in R) (bad R) in
     let v = least (fields_of R) (is_void R b) in
-    let told = picked (refused_at LowAboveHigh b v) none (refused_at LowAboveHigh i f) (ltb b (rules_in R)) e (λ r. numbers_apart r) in
+    let told = picked (refused_at LowAboveHigh b v) none (refused_at LowAboveHigh i f) (ltb b (rules_in R)) e (λ r. not-none (sym r)) in
+    let same : refusing LowAboveHigh b v ≡ refusing LowAboveHigh i f = cc told.1 in
     let lt = ltb-true b (rules_in R) told.0 in
     let here = void_here R b s lt (least_hit (bad R) (rules_in R) lt) (least_under (bad R) (rules_in R)) in
-    moved b v (ap (λ (x : Refusal). x.at) told.1) (ap (λ (x : Refusal). x.then) told.1) here
+    moved b v (ap (λ (x : Refusal). x.at) same) (ap (λ (x : Refusal). x.then) same) here
   where
-    numbers_apart : none ≡ refused_at LowAboveHigh i f → ⊥
-    numbers_apart r = let z : ◌≡◌ {A = ℕ} 0 4 = ap (λ (x : Refusal). x.number) r in omega arith
-
     moved : (b v : ℕ) → b ≡ i → v ≡ f → LeastVoid R b v → LeastVoid R i f
     moved b v is_i is_f here = rw (← is_i, ← is_f) here
 
 -- 4 is given exactly at the smallest rule number with a range that holds no number, and there at its smallest such field, and only where 1, 2, 3
 -- do not apply
-pub check_4_iff : (R : Rules) (i f : ℕ) → (check_of R ≡ CountRefused (refused_at LowAboveHigh i f)) ↔ LeastVoid R i f
+pub check_4_iff : (R : Rules) (i f : ℕ) → (check_of R ≡ refused_at LowAboveHigh i f) ↔ LeastVoid R i f
 check_4_iff R i f = (λ e. to (refusal e), fro)
   where
     four : Refusal
-    four = refused_at LowAboveHigh i f
+    four = refusing LowAboveHigh i f
 
-    refusal : check_of R ≡ CountRefused four → list_fault R ≡ four
-    refusal e =
-        let told = (not_picked (Is (rules_in R)) (CountRefused (list_fault R)) (CountRefused four) (stands (list_fault R)) e (λ r. never (cc))).1 in
-        cc
+    refusal : check_of R ≡ Err four → list_fault R ≡ Err four
+    refusal = go (list_fault R)
+      where
+        go : (y : Fault) → unless y (rules_in R) ≡ Err four → y ≡ Err four
+        go (Ok u) e = absurd (not-none (sym e))
+        go (Err x) e = cc
 
-    not_shape : shape_fault R ≡ four → ⊥
-    not_shape r =
-        let z : (shape_fault R).number ≡ 4 = ap (λ (x : Refusal). x.number) r in
-        omega (arith, shape_few R)
+    not_shape : shape_fault R ≡ Err four → ⊥
+    not_shape r = absurd (omega (arith, ap number_in r, shape_few R))
 
-    to : list_fault R ≡ four → LeastVoid R i f
+    to : list_fault R ≡ Err four → LeastVoid R i f
     to e =
-        let told = picked (ends_fault R) (shape_fault R) four (stands (shape_fault R)) e not_shape in
-        ends_least R i f (shaped R (eqb-true (shape_fault R).number 0 told.0)) told.1
+        let told = (else_iff (shape_fault R) (ends_fault R) four not_shape).0 e in
+        ends_least R i f (shaped R told.0) told.1
 
-    fro : LeastVoid R i f → check_of R ≡ CountRefused four
+    fro : LeastVoid R i f → check_of R ≡ Err four
     fro l =
         let here = le-leb (ends_at R i f) (low_of R i f) l.void in
         let first = least_is (is_void R i) (fields_of R) f l.field here (λ g lt. lt-leb (ends_at R i g) (low_of R i g) (l.fields_before g lt)) in
@@ -165,26 +163,26 @@ first_one R h i first = least_is (fits R h) (rules_in R) i first.rule first.here
 
 module _ (R : Rules) (h : List ℕ) where
   -- a rule returned fits and none before it does; and the first rule that fits is returned
-  pub scan_rule_iff : (i : ℕ) → (scan_of R h ≡ Rule i) ↔ (Accepted R × First R h i)
+  pub scan_rule_iff : (i : ℕ) → (scan_of R h ≡ Ok (Some i)) ↔ (Accepted R × First R h i)
   scan_rule_iff i = (
     λ e.
-        let told = picked (match_of R h) (MatchRefused (list_fault R)) (Rule i) (stands (list_fault R)) e (λ r. never (cc)) in
-        let found = picked (Rule (first_match R h)) Nothing (Rule i) (ltb (first_match R h) (rules_in R)) told.1 (λ r. never (cc)) in
-        let is_i : first_match R h ≡ i = cc found.1 in
-        (stands_accepted R told.0, rw is_i at (first-here R h (ltb-true (first_match R h) (rules_in R) found.0))),
+        let told = (else_none (list_fault R) (Ok (match_of R h))).0 e in
+        let is : Some i ≡ match_of R h = cc told.1 in
+        let found = found_is is in
+        (list_accepted R told.0, rw (sym found.0) at (first-here R h (rw found.0 at found.1))),
     λ p. rw (accepted_none R p.0, first_one R h i p.1, lt-ltb i (rules_in R) p.1.rule),
   )
 
   -- none is returned exactly where no rule fits
-  pub scan_nothing_iff : (scan_of R h ≡ Nothing) ↔ (Accepted R × ((k : ℕ) → k < rules_in R → fits R h k ≡ false))
+  pub scan_nothing_iff : (scan_of R h ≡ Ok None) ↔ (Accepted R × ((k : ℕ) → k < rules_in R → fits R h k ≡ false))
   unfolding first_match
   scan_nothing_iff =
       let n = rules_in R in (
         λ e.
-            let told = picked (match_of R h) (MatchRefused (list_fault R)) Nothing (stands (list_fault R)) e (λ r. never (cc)) in
-            let past = (not_picked (Rule (first_match R h)) Nothing Nothing (ltb (first_match R h) n) told.1 (λ r. never (cc))).0 in
-            let over = ltb-false (least n (fits R h)) n past in
-            (stands_accepted R told.0, λ k lt. least_under (fits R h) n k (omega arith)),
+            let told = (else_none (list_fault R) (Ok (match_of R h))).0 e in
+            let is : None ≡ match_of R h = cc told.1 in
+            let over = found_none is in
+            (list_accepted R told.0, λ k lt. least_under (fits R h) n k (omega arith)),
         λ p. rw (accepted_none R p.0, least-none (fits R h) n p.1, le-ltb n n (omega arith)),
       )
 
@@ -249,21 +247,21 @@ shared_words_when R words =
 
 -- yes is answered exactly when nothing is refused and no two rules share a header
 pub independent_iff : (R : Rules)
-    → (independence_of R ≡ Independent) ↔ (Accepted R × ((i j : ℕ) → i < j → j < rules_in R → Shared R i j → ⊥))
+    → (independence_of R ≡ Ok None) ↔ (Accepted R × ((i j : ℕ) → i < j → j < rules_in R → Shared R i j → ⊥))
 independent_iff R = independent_share_iff R (shared_when R)
 
 -- a pair is named exactly when nothing is refused, it shares a header, and no pair before it does: none with a smaller i, nor with this i
 -- and a smaller j
-pub pair_iff : (R : Rules) (i j : ℕ) → (independence_of R ≡ Both i j) ↔ LeastPair R (Shared R) i j
+pub pair_iff : (R : Rules) (i j : ℕ) → (independence_of R ≡ Ok (Some (i, j))) ↔ LeastPair R (Shared R) i j
 pair_iff R = pair_share_iff R (shared_when R)
 
 -- the same of a list of 32-bit numbers, where a header is eight 32-bit numbers and nothing else: yes ..
 pub independent_words_iff : (R : Rules) → Words R
-    → (independence_of R ≡ Independent) ↔ (Accepted R × ((i j : ℕ) → i < j → j < rules_in R → SharedWords R i j → ⊥))
+    → (independence_of R ≡ Ok None) ↔ (Accepted R × ((i j : ℕ) → i < j → j < rules_in R → SharedWords R i j → ⊥))
 independent_words_iff R words = independent_share_iff R (shared_words_when R words)
 
 -- .. and the pair
-pub pair_words_iff : (R : Rules) → Words R → (i j : ℕ) → (independence_of R ≡ Both i j) ↔ LeastPair R (SharedWords R) i j
+pub pair_words_iff : (R : Rules) → Words R → (i j : ℕ) → (independence_of R ≡ Ok (Some (i, j))) ↔ LeastPair R (SharedWords R) i j
 pair_words_iff R words = pair_share_iff R (shared_words_when R words)
 
 -- h fits both rules of the pair; it is eight numbers, and of 32 bits each where the list's are
@@ -274,7 +272,7 @@ pub record FitsBoth (R : Rules) (i j : ℕ) (h : List ℕ) : Type 0 where
   pub words : Words R → IsHeader h
 
 -- a header that both rules of the pair named fit can be written down: in each field the greater of their lows
-pub pair_header : (R : Rules) (i j : ℕ) → independence_of R ≡ Both i j → FitsBoth R i j (shared_header R i j)
+pub pair_header : (R : Rules) (i j : ℕ) → independence_of R ≡ Ok (Some (i, j)) → FitsBoth R i j (shared_header R i j)
 pair_header R i j e =
     let p = (pair_iff R i j).0 e in
     let i-rule : i < rules_in R = omega (arith, p.after, p.rule) in

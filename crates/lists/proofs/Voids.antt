@@ -11,7 +11,8 @@ use lib.Dec.{ltb}
 use Rattle.std.specs.Prelude.{Some, None}
 use borrow.Author.Tests.{lt-ltb, le-ltb, lt-leb, ltb-true, leb-false, not-true, not-false}
 use Rattle.ranges.specs.Numbers.{least}
-use Rattle.ranges.specs.Refusals.{none, refused_at, LowAboveHigh}
+use Rattle.ranges.specs.Refusals.{none, refused_at}
+use Rattle.ranges.specs.declared.refusal.Cause.TheVariants.{LowAboveHigh}
 use Rattle.ranges.proofs.Numbers.{true-not-false, all_yes, all_at, all_no, least_hit, least_under}
 use Rattle.lists.specs.Rules.{Rules, fields_of, rules_in, low_of, ends_at, is_void}
 use Rattle.lists.specs.Faults.{sound_rule, bad_rule, ends_fault}

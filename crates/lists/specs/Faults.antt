@@ -2,8 +2,8 @@
 -- Assumes nothing: these are definitions.
 use Rattle.std.specs.Prelude.{ℕ, ◌*◌, ◌%◌, Bool, not, length, ltb, eqb}
 use Rattle.ranges.specs.Numbers.{pick, ◌and◌, ◌or◌, all, least}
-use Rattle.ranges.specs.Refusals.{none, refused, refused_at, or_else, BadFields, BadLength, TooManyRules, LowAboveHigh}
-use Rattle.ranges.specs.declared.refusal.Refusal.{Refusal}
+use Rattle.ranges.specs.Refusals.{Fault, none, refused, refused_at, or_else}
+use Rattle.ranges.specs.declared.refusal.Cause.TheVariants.{BadFields, BadLength, TooManyRules, LowAboveHigh}
 use Rattle.lists.specs.Limits.{most_fields, most_rules, full_length}
 use Rattle.lists.specs.Rules.{Rules, fields_of, rules_in, is_void}
 
@@ -24,13 +24,13 @@ abbrev pub too_many_rules : Rules → Bool
 too_many_rules R = ltb most_rules (rules_in R)
 
 -- of a list that is lent in full, 02, W7: 1, and 2 where its length is not the full one
-unfoldable pub room_fault : Rules → Refusal
+unfoldable pub room_fault : Rules → Fault
 room_fault R =
     pick (bad_fields R) (refused BadFields)
     (pick (eqb (length R.numbers) (full_length (fields_of R))) none (refused BadLength))
 
 -- 1, 2, 3 in this order
-unfoldable pub shape_fault : Rules → Refusal
+unfoldable pub shape_fault : Rules → Fault
 shape_fault R =
     pick (bad_fields R) (refused BadFields)
     (pick (bad_length R) (refused BadLength)
@@ -46,12 +46,12 @@ unfoldable pub bad_rule : Rules → ℕ
 bad_rule R = least (rules_in R) (λ i. not (sound_rule R i))
 
 -- 4: some range holds no number; its place is the smallest such rule number, then its smallest such field
-unfoldable pub ends_fault : Rules → Refusal
+unfoldable pub ends_fault : Rules → Fault
 ends_fault R =
     pick (ltb (bad_rule R) (rules_in R))
     (refused_at LowAboveHigh (bad_rule R) (least (fields_of R) (is_void R (bad_rule R))))
     none
 
 -- 1, 2, 3, 4 in this order
-abbrev pub list_fault : Rules → Refusal
+abbrev pub list_fault : Rules → Fault
 list_fault R = or_else (shape_fault R) (ends_fault R)

@@ -3,14 +3,13 @@
 -- Two rules whose ranges hold a number each are fitted by one header exactly when they meet, as is defined here in the
 -- list's own numbers; `proofs/Theorems.antt` shows it, and that "yes" excludes every header.
 -- Assumes nothing: these are definitions.
-use Rattle.std.specs.Prelude.{ℕ, Bool, [], ◌∷◌, ltb}
+use Rattle.std.specs.Prelude.{ℕ, Bool, List, Result, Option, Some, None, [], ◌∷◌, ltb}
 use Rattle.ranges.specs.Numbers.{pick, ◌and◌, all, least}
 use Rattle.ranges.specs.Sides.{meet_of}
-use Rattle.ranges.specs.Refusals.{none, stands, Said, said_of}
+use Rattle.ranges.specs.Refusals.{Said, says, unless}
+use Rattle.ranges.specs.declared.refusal.Refusal.{Refusal}
 use Rattle.lists.specs.Rules.{Rules, fields_of, rules_in, low_of, ends_at}
 use Rattle.lists.specs.Faults.{list_fault}
-use Rattle.lists.specs.declared.independence.Pair.{Pair}
-use Rattle.lists.specs.declared.independence.Pair.TheVariants.{Independent, Both, Refused}
 
 -- in field f, the low of each of rules i and j is before the other's end
 -- (0-9 and 9-12 meet; 0-9 and 10-12 do not)
@@ -38,16 +37,18 @@ has_partner R i = ltb (partner_of R i) (rules_in R)
 unfoldable pub paired : Rules → ℕ
 paired R = least (rules_in R) (has_partner R)
 
--- the least pair, or none
-abbrev pub pair_of : Rules → Pair
-pair_of R = pick (ltb (paired R) (rules_in R)) (Both (paired R) (partner_of R (paired R))) Independent
+-- the least pair, or none: the list is order independent
+abbrev pub pair_of : Rules → Option (ℕ × ℕ)
+pair_of R = pick (ltb (paired R) (rules_in R)) (Some (paired R, partner_of R (paired R))) None
 
 -- the same, unless something is refused
-abbrev pub independence_of : Rules → Pair
-independence_of R = pick (stands (list_fault R)) (pair_of R) (Refused (list_fault R))
+abbrev pub independence_of : Rules → Result (Option (ℕ × ℕ)) Refusal
+independence_of R = unless (list_fault R) (pair_of R)
 
 -- what the answer says in the paper's words: 1 for yes; 0 for no, and the pair
-abbrev pub says_pair : Pair → Said
-says_pair Independent = said_of none (1 ∷ [])
-says_pair (Both i j) = said_of none (0 ∷ i ∷ j ∷ [])
-says_pair (Refused x) = said_of x []
+abbrev pub pair_words : Option (ℕ × ℕ) → List ℕ
+pair_words None = 1 ∷ []
+pair_words (Some p) = 0 ∷ p.0 ∷ p.1 ∷ []
+
+abbrev pub says_pair : Result (Option (ℕ × ℕ)) Refusal → Said
+says_pair pair = says pair_words pair

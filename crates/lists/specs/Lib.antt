@@ -6,8 +6,8 @@ pub mod FirstMatch
 pub mod Faults
 pub mod Edges
 pub mod Check
+pub mod Found
 pub mod Scan
 pub mod Independence
 -- Scaffolding: what the contracts of private functions say.
 pub mod Asked
-pub mod Found

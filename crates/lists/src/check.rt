@@ -9,7 +9,7 @@ ghost use Rattle.lists.specs.Check.{check_of};
 
 use crate::range::range_at;
 use crate::shape::{Shape, rules_in, shape_fault};
-use ranges::refusal::{Count, LOW_ABOVE_HIGH, Refusal, refuse};
+use ranges::refusal::{Cause, Refusal};
 use ranges::side::is_void;
 
 // Says whether the range of rule i in field f holds no number: low > high, of a date low ≥ high.
@@ -33,42 +33,36 @@ fn void_field(shape: Shape, list: &[u32], i: u16) -> Option<u16>
     None
 }
 
-// Gives the refusal 4 of a list whose shape stands, at the smallest rule number with a range that holds no number and then
-// its smallest such field, or the one that refuses nothing.
-fn ends_fault(shape: Shape, list: &[u32]) -> Refusal
+// Refuses a list whose shape stands by 4, at the smallest rule number with a range that holds no number and then its smallest
+// such field.
+fn ends_fault(shape: Shape, list: &[u32]) -> Result<(), Refusal>
     requires { Shaped (listed shape list.now) }
     ensures { result ≡ ends_fault (listed shape list.now) }
 {
     for i in 0..rules_in(shape, list) as u16 {
         if let Some(f) = void_field(shape, list, i) {
-            return Refusal {
-                number: LOW_ABOVE_HIGH,
+            return Err(Refusal {
+                cause: Cause::LowAboveHigh,
                 at: i as usize,
                 then: f as usize,
-            };
+            });
         }
     }
-    refuse(0)
+    Ok(())
 }
 
-// Gives the first of the refusals 1, 2, 3 and 4 that applies to a list, or the one that refuses nothing.
-pub fn list_fault(shape: Shape, list: &[u32]) -> Refusal
+// Refuses a list by the first of 1, 2, 3 and 4 that applies.
+pub fn list_fault(shape: Shape, list: &[u32]) -> Result<(), Refusal>
     ensures { result ≡ list_fault (listed shape list.now) }
 {
-    let fault = shape_fault(shape, list);
-    if fault.number != 0 {
-        return fault;
-    }
+    shape_fault(shape, list)?;
     ends_fault(shape, list)
 }
 
 // Checks a list: gives n, the number of its rules, or the first of the refusals 1, 2, 3 and 4 that applies.
-pub fn check_list(shape: Shape, list: &[u32]) -> Count
+pub fn check_list(shape: Shape, list: &[u32]) -> Result<usize, Refusal>
     ensures { result ≡ check_of (listed shape list.now) }
 {
-    let fault = list_fault(shape, list);
-    if fault.number != 0 {
-        return Count::Refused(fault);
-    }
-    Count::Is(rules_in(shape, list))
+    list_fault(shape, list)?;
+    Ok(rules_in(shape, list))
 }

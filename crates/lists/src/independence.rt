@@ -11,14 +11,6 @@ use crate::shape::{Shape, rules_in};
 use ranges::refusal::Refusal;
 use ranges::side::meets;
 
-// What a test of order independence answers: yes, or the least pair of rules that one header fits; or a refusal.
-#[derive(Clone, Copy)]
-pub enum Pair {
-    Independent,
-    Both(usize, usize),
-    Refused(Refusal),
-}
-
 // Says whether the ranges of rules i and j meet in field f: the low of each is before the other's end.
 fn meet_at(shape: Shape, list: &[u32], i: u16, j: u16, f: u16) -> bool
     requires { (HasField (listed shape list.now) i f) × (HasField (listed shape list.now) j f) }
@@ -53,28 +45,25 @@ fn partner_of(shape: Shape, list: &[u32], n: u16, i: u16) -> Option<u16>
     None
 }
 
-// Gives the least pair of rules that meet, smallest i first and then smallest j, of a list whose shape stands.
-fn least_pair(shape: Shape, list: &[u32]) -> Pair
+// Gives the least pair of rules that meet, smallest i first and then smallest j, of a list whose shape stands, or none.
+fn least_pair(shape: Shape, list: &[u32]) -> Option<(usize, usize)>
     requires { Shaped (listed shape list.now) }
     ensures { result ≡ pair_of (listed shape list.now) }
 {
     let n = rules_in(shape, list) as u16;
     for i in 0..n {
         if let Some(j) = partner_of(shape, list, n, i) {
-            return Pair::Both(i as usize, j as usize);
+            return Some((i as usize, j as usize));
         }
     }
-    Pair::Independent
+    None
 }
 
-// Tests a list for order independence: yes exactly when no header fits two different rules, otherwise the least pair
-// that some header fits, or the first of the refusals 1, 2, 3 and 4 that applies to the list.
-pub fn independence(shape: Shape, list: &[u32]) -> Pair
+// Tests a list for order independence: none, that is yes, exactly when no header fits two different rules, otherwise the least
+// pair that some header fits, or the first of the refusals 1, 2, 3 and 4 that applies to the list.
+pub fn independence(shape: Shape, list: &[u32]) -> Result<Option<(usize, usize)>, Refusal>
     ensures { result ≡ independence_of (listed shape list.now) }
 {
-    let fault = list_fault(shape, list);
-    if fault.number != 0 {
-        return Pair::Refused(fault);
-    }
-    least_pair(shape, list)
+    list_fault(shape, list)?;
+    Ok(least_pair(shape, list))
 }

@@ -1,10 +1,9 @@
 // The plain scan: the first rule that fits a header.
 ghost use Rattle.std.specs.Prelude.{◌≡◌};
-ghost use Rattle.lists.specs.Rules.{listed, rules_in, Shaped};
+ghost use Rattle.lists.specs.Rules.{listed, Shaped};
 ghost use Rattle.lists.specs.Asked.{HasRule, HasField};
-ghost use Rattle.lists.specs.Found.{found_below};
-ghost use Rattle.lists.specs.FirstMatch.{inside_at, fits, first_match};
-ghost use Rattle.lists.specs.Scan.{fits_in, scan_of};
+ghost use Rattle.lists.specs.FirstMatch.{inside_at, fits};
+ghost use Rattle.lists.specs.Scan.{fits_in, match_of, scan_of};
 
 use crate::check::list_fault;
 use crate::range::range_at;
@@ -12,23 +11,12 @@ use crate::shape::{Shape, in_list, rules_in};
 use ranges::refusal::Refusal;
 use ranges::side::{Side, side_of};
 
-// What a scan answers: the first match, or none; or a refusal.
-#[derive(Clone, Copy)]
-pub enum Match {
-    Rule(usize),
-    Nothing,
-    Refused(Refusal),
-}
-
 // Says whether the header's number in field f lies inside the range of rule i.
 fn inside_at(shape: Shape, list: &[u32], i: u16, f: u16, header: &[u32; 8]) -> bool
     requires { HasField (listed shape list.now) i f }
     ensures { result ≡ inside_at (listed shape list.now) header.now i f }
 {
-    matches!(
-        side_of(range_at(shape, list, i, f), header[f as usize]),
-        Side::Inside
-    )
+    side_of(range_at(shape, list, i, f), header[f as usize]) == Side::Inside
 }
 
 // Says whether rule i fits a header, for a rule that stands in the list; ends at the first field that does not fit.
@@ -58,7 +46,7 @@ pub fn rule_fits(shape: Shape, list: &[u32], rule: u16, header: [u32; 8]) -> boo
 // ends at the first rule that fits.
 fn first_match(shape: Shape, list: &[u32], header: &[u32; 8]) -> Option<usize>
     requires { Shaped (listed shape list.now) }
-    ensures { result ≡ found_below (rules_in (listed shape list.now)) (first_match (listed shape list.now) header.now) }
+    ensures { result ≡ match_of (listed shape list.now) header.now }
 {
     for i in 0..rules_in(shape, list) as u16 {
         if fits_at(shape, list, i, header) {
@@ -70,15 +58,9 @@ fn first_match(shape: Shape, list: &[u32], header: &[u32; 8]) -> Option<usize>
 
 // Scans a list plainly: gives the first match of a header, or none, or the first of the refusals 1, 2, 3 and 4 that
 // applies to the list.
-pub fn plain_scan(shape: Shape, list: &[u32], header: [u32; 8]) -> Match
+pub fn plain_scan(shape: Shape, list: &[u32], header: [u32; 8]) -> Result<Option<usize>, Refusal>
     ensures { result ≡ scan_of (listed shape list.now) header }
 {
-    let fault = list_fault(shape, list);
-    if fault.number != 0 {
-        return Match::Refused(fault);
-    }
-    match first_match(shape, list, &header) {
-        Some(i) => Match::Rule(i),
-        None => Match::Nothing,
-    }
+    list_fault(shape, list)?;
+    Ok(first_match(shape, list, &header))
 }

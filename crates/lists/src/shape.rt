@@ -4,7 +4,7 @@ ghost use Rattle.std.specs.Prelude.{◌≡◌};
 ghost use Rattle.lists.specs.Rules.{shape_of, flag_of, listed, rules_in, offset_of};
 ghost use Rattle.lists.specs.Faults.{in_list, room_fault, shape_fault};
 
-use ranges::refusal::{BAD_FIELDS, BAD_LENGTH, Refusal, TOO_MANY_RULES, refuse};
+use ranges::refusal::{Cause, Refusal, refuse};
 
 // The most fields that a rule has.
 pub const MOST_FIELDS: usize = 8;
@@ -72,41 +72,41 @@ pub fn in_list(shape: Shape, list: &[u32], rule: u16) -> bool
     offset_of(d as u16, rule, d as u16) <= list.len()
 }
 
-// Gives the first of the refusals 1 and 2 that applies to a list that is lent in full, with room for the most rules, or the one
-// that refuses nothing: 2 is any other length than the full one.
-pub fn room_fault(shape: Shape, list: &[u32]) -> Refusal
+// Refuses a list that is lent in full, with room for the most rules, by the first of 1 and 2 that applies: 2 is any other length
+// than the full one.
+pub fn room_fault(shape: Shape, list: &[u32]) -> Result<(), Refusal>
     ensures { result ≡ room_fault (listed shape list.now) }
 {
     let d = shape.d;
     if d < 1 {
-        return refuse(BAD_FIELDS);
+        return Err(refuse(Cause::BadFields));
     }
     if MOST_FIELDS < d {
-        return refuse(BAD_FIELDS);
+        return Err(refuse(Cause::BadFields));
     }
     if list.len() != MOST_RULES * d * 2 {
-        return refuse(BAD_LENGTH);
+        return Err(refuse(Cause::BadLength));
     }
-    refuse(0)
+    Ok(())
 }
 
-// Gives the first of the refusals 1, 2 and 3 that applies to a list's shape, or the one that refuses nothing.
-pub fn shape_fault(shape: Shape, list: &[u32]) -> Refusal
+// Refuses a list's shape by the first of 1, 2 and 3 that applies.
+pub fn shape_fault(shape: Shape, list: &[u32]) -> Result<(), Refusal>
     ensures { result ≡ shape_fault (listed shape list.now) }
 {
     let d = shape.d;
     if d < 1 {
-        return refuse(BAD_FIELDS);
+        return Err(refuse(Cause::BadFields));
     }
     if MOST_FIELDS < d {
-        return refuse(BAD_FIELDS);
+        return Err(refuse(Cause::BadFields));
     }
     let n = rules_in(shape, list);
     if n * d * 2 != list.len() {
-        return refuse(BAD_LENGTH);
+        return Err(refuse(Cause::BadLength));
     }
     if MOST_RULES < n {
-        return refuse(TOO_MANY_RULES);
+        return Err(refuse(Cause::TooManyRules));
     }
-    refuse(0)
+    Ok(())
 }

@@ -21,4 +21,4 @@ loop-i-preserved c =
 -- no rule has one
 pub returns : goal.returns
 returns c =
-    c.refuse.ensures ∙ ends_stands _ _ c.loop-i.invariant (rw c.rules_in-i-end.ensures at c.loop-i-test.false)
+    ends_stands _ _ c.loop-i.invariant (rw c.rules_in-i-end.ensures at c.loop-i-test.false)

@@ -1,7 +1,8 @@
--- `lists::scan::plain_scan` meets its contract: past the list's refusals it says what the search for the first match found.
+-- `lists::scan::plain_scan` meets its contract: the first match is asked of a list whose shape stands.
 -- Assumes nothing.
-use Rattle.lists.proofs.Faults.{by-listed}
+use mathlib.Core.Path.{sym}
+use Rattle.lists.proofs.Sound.{list_shaped}
 use Rattle.lists.proofs.scan.plain_scan.Goals as goal
 
 pub first_match-requires : goal.first_match-requires
-first_match-requires c = by-listed _ _ c.list_fault-fault.ensures c.if-fault-ne0.false
+first_match-requires c = list_shaped _ (sym c.in_ok-list_fault.ensures)

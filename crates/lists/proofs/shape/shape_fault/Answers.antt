@@ -1,6 +1,7 @@
 -- `lists::shape::shape_fault` meets its contract: at each way out the tests that led there give the law of that refusal.
 -- Assumes nothing.
-use mathlib.Core.Path.{sym, ◌∙◌}
+use mathlib.Core.Path.{sym, ap, ◌∙◌}
+use Rattle.std.specs.Prelude.{Err}
 use native.Mathlib.Omega.{arith}
 use Rattle.lists.specs.Rules.{listed}
 use Rattle.lists.proofs.Rules.{within_by}
@@ -9,11 +10,11 @@ use Rattle.lists.proofs.shape.shape_fault.Goals as goal
 
 -- 1: no field
 pub returns-then-d-lt1 : goal.returns-then-d-lt1
-returns-then-d-lt1 c = c.refuse.ensures ∙ sym (shape_no_fields _ c.if-d-lt1.true)
+returns-then-d-lt1 c = ap Err c.refuse.ensures ∙ sym (shape_no_fields _ c.if-d-lt1.true)
 
 -- 1: more than eight fields
 pub returns-then-d-gt-MOST_FIELDS : goal.returns-then-d-gt-MOST_FIELDS
-returns-then-d-gt-MOST_FIELDS c = c.refuse-then-d-gt-MOST_FIELDS.ensures ∙ sym (shape_many_fields _ c.if-d-lt1.false c.if-d-gt-MOST_FIELDS.true)
+returns-then-d-gt-MOST_FIELDS c = ap Err c.refuse-then-d-gt-MOST_FIELDS.ensures ∙ sym (shape_many_fields _ c.if-d-lt1.false c.if-d-gt-MOST_FIELDS.true)
 
 pub overflow_mul-n : goal.overflow_mul-n
 overflow_mul-n c =
@@ -28,16 +29,15 @@ overflow_mul-n-2 c =
 -- 2
 pub returns-then-n-d : goal.returns-then-n-d
 returns-then-n-d c =
-    c.refuse-then-n-d.ensures ∙ sym (counted_part_rule _ _ c.rules_in-n.ensures c.if-d-lt1.false c.if-d-gt-MOST_FIELDS.false c.if-n-d.true)
+    ap Err c.refuse-then-n-d.ensures ∙ sym (counted_part_rule _ _ c.rules_in-n.ensures c.if-d-lt1.false c.if-d-gt-MOST_FIELDS.false c.if-n-d.true)
 
 -- 3
 pub returns-then-n-gt-MOST_RULES : goal.returns-then-n-gt-MOST_RULES
 returns-then-n-gt-MOST_RULES c =
-    c.refuse-then-n-gt-MOST_RULES.ensures
+    ap Err c.refuse-then-n-gt-MOST_RULES.ensures
     ∙ sym (counted_many_rules _ _ c.rules_in-n.ensures c.if-d-lt1.false c.if-d-gt-MOST_FIELDS.false c.if-n-d.false c.if-n-gt-MOST_RULES.true)
 
 -- none of them
 pub returns : goal.returns
 returns c =
-    c.refuse-2.ensures
-    ∙ sym (counted_stands _ _ c.rules_in-n.ensures c.if-d-lt1.false c.if-d-gt-MOST_FIELDS.false c.if-n-d.false c.if-n-gt-MOST_RULES.false)
+    sym (counted_stands _ _ c.rules_in-n.ensures c.if-d-lt1.false c.if-d-gt-MOST_FIELDS.false c.if-n-d.false c.if-n-gt-MOST_RULES.false)
