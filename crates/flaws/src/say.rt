@@ -7,6 +7,7 @@ use text::put::{put_number, put_text};
 use text::row::EXACT_BELOW;
 
 // Puts a count of cells.
+#[tactic(auto, unfolding(crate::specs::Said::count_said))]
 fn put_count(k: u32, out: &mut [u8], at: usize) -> usize
     ensures { Put out.old at (count_said k) out.new result }
 {
@@ -17,6 +18,7 @@ fn put_count(k: u32, out: &mut [u8], at: usize) -> usize
 }
 
 // Puts the word for what is counted, with an s unless the count is 1.
+#[tactic(auto, unfolding(crate::specs::Said::plural_said))]
 pub fn put_plural(n: u64, word: &[u8], out: &mut [u8], at: usize) -> usize
     ensures { Put out.old at (plural_said n word.now) out.new result }
 {
