@@ -1,19 +1,16 @@
--- Numbers of a table as the code reads them (`src/read.rt`): at an offset that a callee gave, and 0 past the table's end.
---     past_end, read_at                  the two ways of a reader
+-- Numbers of a table as the code reads them (`src/read.rt`): at an offset that a callee gave.
+--     read_at                            what is read, at an offset that a callee gave
 --     part_not, part_test, part_spans    a partition is broken by its starts, or not
 -- Assumes nothing.
 use Prim.Native.Nat.{ℕ, suc, ◌≤◌, ◌<◌}
 use mathlib.Core.Bool.{true, false}
 use mathlib.Core.List.{List}
-use mathlib.Core.Path.{◌≡◌, sym, ap, ◌∙◌}
-use lib.ListN.{length, get_or, get_or-eq_default}
+use mathlib.Core.Path.{◌≡◌, ap, ◌∙◌}
+use lib.ListN.{get_or}
 use lib.Dec.{ltb, leb}
 use borrow.Author.Tests.{lt-ltb, le-ltb, ltb-true, leb-true}
 use Rattle.ranges.proofs.Numbers.{and_left, and_right}
 use Rattle.tables.specs.Opening.{part_stands}
-
-pub past_end : (T : List ℕ) (at : ℕ) → length T ≤ at → 0 ≡ get_or T at 0
-past_end T at past = sym (get_or-eq_default T 0 past)
 
 -- r is what was read, at k as a callee gave it
 pub read_at : (T : List ℕ) {r k at : ℕ} → r ≡ get_or T k 0 → k ≡ at → r ≡ get_or T at 0

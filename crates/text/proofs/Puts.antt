@@ -1,5 +1,5 @@
 -- Laws of bytes put from a place on (`specs/Puts.antt`).
---     put_no_byte, put_past       no byte; a byte past the run's end
+--     put_no_byte                 no byte
 --     put_then, put_byte_more     bytes after bytes; one byte more of a text
 --     put_long                    the run keeps its length
 --     put_place, put-fits         where there is room, every byte is there
@@ -53,9 +53,6 @@ place_then n at j k next is = omega arith
 module _ {out : List ℕ} {at : ℕ} where
   pub put_no_byte : Put out at [] out at
   put_no_byte = record { place = omega arith; bytes = refl }
-
-  pub put_past : {b : ℕ} → length out ≤ at → Put out at (b ∷ []) out at
-  put_past {b} past = record { place = omega arith; bytes = sym (set_out out at b past) }
 
 module _ {out : List ℕ} {at : ℕ} {xs after : List ℕ} {next : ℕ} (first : Put out at xs after next) where
   pub put_long : length after ≡ length out

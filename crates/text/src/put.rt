@@ -20,10 +20,8 @@ pub fn put_text(text: &[u8], out: &mut [u8], at: usize) -> usize
     ensures { Put out.old at text.now out.new result }
 {
     let mut place = at;
-    let mut i = 0;
-    while i < text.len() {
-        place = put_byte(text[i], out, place);
-        i += 1;
+    for byte in text {
+        place = put_byte(*byte, out, place);
     }
     place
 }
