@@ -30,14 +30,7 @@ fn starts_fine(table: &[u16], n: u16) -> bool
     ensures { result ≡ all n (start_fine (get_or table.now b_at 0) (start_in n table.now)) }
 {
     let b = part_count(table);
-    let mut q: u16 = 0;
-    while q < n {
-        if !start_fine(table, n, b, q) {
-            return false;
-        }
-        q += 1;
-    }
-    true
+    (0..n).all(|q| start_fine(table, n, b, q))
 }
 
 // ---- the order
@@ -47,43 +40,29 @@ fn rules_fine(table: &[u16], n: u16) -> bool
     requires { n ≤ most_rules }
     ensures { result ≡ all n (rule_fine n (order_in table.now)) }
 {
-    let mut marks = [0u16; MOST_RULES];
-    let mut p: u16 = 0;
-    while p < n {
+    let mut marks = [false; MOST_RULES];
+    for p in 0..n {
         let i = rule_at(table, p);
         if n <= i {
             return false;
         }
-        if marks[i as usize] != 0 {
+        if marks[i as usize] {
             return false;
         }
-        marks[i as usize] = 1;
-        p += 1;
+        marks[i as usize] = true;
     }
     true
 }
 
 // ---- the smallest rule numbers
 
-// Gives the smaller of two numbers.
-fn smaller(a: u16, b: u16) -> u16
-    ensures { result ≡ min a b }
-{
-    if b < a {
-        return b;
-    }
-    a
-}
-
 // Gives the smallest rule number of places s to before e, or n where none is smaller.
 fn least_rule(table: &[u16], n: u16, s: u16, e: u16) -> u16
     ensures { result ≡ least_from n (order_in table.now) s e }
 {
     let mut least = n;
-    let mut p = s;
-    while p < e {
-        least = smaller(least, rule_at(table, p));
-        p += 1;
+    for p in s..e {
+        least = least.min(rule_at(table, p));
     }
     least
 }
@@ -105,27 +84,10 @@ fn leasts_fine(table: &[u16], n: u16) -> bool
     ensures { result ≡ all n (least_fine n (get_or table.now b_at 0) (order_in table.now) (start_in n table.now) (least_in n table.now)) }
 {
     let b = part_count(table);
-    let mut k: u16 = 0;
-    while k < n {
-        if !least_fine(table, n, b, k) {
-            return false;
-        }
-        k += 1;
-    }
-    true
+    (0..n).all(|q| least_fine(table, n, b, q))
 }
 
 // ---- the rows
-
-// Gives the first of two numbers where a test passed, else the second.
-fn picked(t: bool, x: u16, y: u16) -> u16
-    ensures { result ≡ pick t x y }
-{
-    if t {
-        return x;
-    }
-    y
-}
 
 // Reads the run-from of place p and field f, of a table that has it.
 fn from_in(table: &[u16], n: u16, d: u16, p: u16, f: u16) -> u16
@@ -149,8 +111,8 @@ fn field_meets(table: &[u16], n: u16, d: u16, a: u16, p: u16, f: u16) -> bool
     requires { Pair n d table.now p × (f < d) }
     ensures { result ≡ meets (view n d table.now) a p f }
 {
-    let from = picked(f < a, from_in(table, n, d, p, f), p + 1);
-    let to = picked(f < a, to_in(table, n, d, p + 1, f), p + 1);
+    let from = if f < a { from_in(table, n, d, p, f) } else { p + 1 };
+    let to = if f < a { to_in(table, n, d, p + 1, f) } else { p + 1 };
     if from_in(table, n, d, p + 1, f) != from {
         return false;
     }
@@ -162,12 +124,10 @@ fn rows_meet(table: &[u16], n: u16, d: u16, a: u16, p: u16) -> bool
     requires { Pair n d table.now p }
     ensures { result ≡ all d (meets (view n d table.now) a p) }
 {
-    let mut f: u16 = 0;
-    while f < d {
+    for f in 0..d {
         if !field_meets(table, n, d, a, p, f) {
             return false;
         }
-        f += 1;
     }
     true
 }
@@ -189,14 +149,7 @@ fn ends_fine(table: &[u16], n: u16, d: u16, s: u16, e: u16) -> bool
     requires { s < e }
     ensures { result ≡ all d (end_fine (view n d table.now) s e) }
 {
-    let mut f: u16 = 0;
-    while f < d {
-        if !end_fine(table, n, d, s, e, f) {
-            return false;
-        }
-        f += 1;
-    }
-    true
+    (0..d).all(|f| end_fine(table, n, d, s, e, f))
 }
 
 // ---- the partitions
@@ -221,13 +174,10 @@ fn span_fine(shape: Shape, list: &[u32], table: &[u16], n: u16, d: u16, s: u16, 
     if !ends_fine(table, n, d, s, e) {
         return false;
     }
-    let m = e - s;
-    let mut k: u16 = 0;
-    while k + 1 < m {
-        if !next_fine(shape, list, table, n, d, s + k) {
+    for p in s..e - 1 {
+        if !next_fine(shape, list, table, n, d, p) {
             return false;
         }
-        k += 1;
     }
     true
 }
@@ -238,8 +188,7 @@ fn parts_fine(shape: Shape, list: &[u32], table: &[u16], n: u16, d: u16) -> bool
     ensures { result ≡ all (get_or table.now b_at 0) (part_fine (listed shape list.now) (view n d table.now)) }
 {
     let b = part_count(table);
-    let mut q: u16 = 0;
-    while q < b {
+    for q in 0..b {
         if !span_fine(
             shape,
             list,
@@ -251,7 +200,6 @@ fn parts_fine(shape: Shape, list: &[u32], table: &[u16], n: u16, d: u16) -> bool
         ) {
             return false;
         }
-        q += 1;
     }
     true
 }

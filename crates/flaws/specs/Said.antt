@@ -6,7 +6,7 @@ use Rattle.text.specs.Rows.{exact_below}
 use Rattle.text.specs.Texts.{bytes}
 use Rattle.text.specs.Decimals.{decimal_of}
 use Rattle.flaws.specs.declared.flaw.Flaw.{Flaw}
-use Rattle.flaws.specs.declared.flaw.Flaw.TheVariants.{Nothing, NoLine, NotNumber, LoneFeed, OtherWidth, OddWidth, TooWide, TooManyRules, LowAboveHigh}
+use Rattle.flaws.specs.declared.flaw.Flaw.TheVariants.{NoLine, NotNumber, LoneFeed, OtherWidth, OddWidth, TooWide, TooManyRules, LowAboveHigh}
 
 -- a count of cells
 unfoldable pub count_said : ℕ → List ℕ
@@ -41,7 +41,6 @@ void_said rule field low high =
     bytes "line " ++ decimal_of (rule + 1) ++ bytes ", field " ++ decimal_of (field + 1) ++ bytes ": low " ++ decimal_of low ++ bytes " is above high " ++ decimal_of high
 
 abbrev pub flaw_said : List ℕ → Flaw → List ℕ
-flaw_said path Nothing = []
 flaw_said path NoLine = bytes "no line, where each is a rule of 2 to 16 cells"
 flaw_said path (NotNumber line cell) = bad_cell_said line cell
 flaw_said path LoneFeed = feed_said path

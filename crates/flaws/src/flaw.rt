@@ -8,8 +8,6 @@ use ranges::refusal::{BAD_FIELDS, BAD_LINE, LOW_ABOVE_HIGH, TOO_MANY_RULES};
 // 0, as 01 has them.
 #[derive(Clone, Copy)]
 pub enum Flaw {
-    // None.
-    Nothing,
     // The file has no line.
     NoLine,
     // A cell is no plain number from 0 to 4294967295.
@@ -44,24 +42,18 @@ pub enum Flaw {
     },
 }
 
-// Gives the number that 01 refuses a flaw by; 0 where there is none.
+// Gives the number that 01 refuses a flaw by.
 pub fn flaw_number(flaw: Flaw) -> u32
     ensures { result ≡ flaw_number flaw }
 {
     match flaw {
-        Flaw::Nothing => 0,
         Flaw::NoLine => BAD_FIELDS,
-        Flaw::NotNumber { line, cell } => BAD_LINE,
+        Flaw::NotNumber { .. } => BAD_LINE,
         Flaw::LoneFeed => BAD_LINE,
-        Flaw::OtherWidth { line, cells, width } => BAD_LINE,
-        Flaw::OddWidth { cells } => BAD_LINE,
-        Flaw::TooWide { cells } => BAD_FIELDS,
+        Flaw::OtherWidth { .. } => BAD_LINE,
+        Flaw::OddWidth { .. } => BAD_LINE,
+        Flaw::TooWide { .. } => BAD_FIELDS,
         Flaw::TooManyRules => TOO_MANY_RULES,
-        Flaw::LowAboveHigh {
-            rule,
-            field,
-            low,
-            high,
-        } => LOW_ABOVE_HIGH,
+        Flaw::LowAboveHigh { .. } => LOW_ABOVE_HIGH,
     }
 }

@@ -7,6 +7,7 @@ use text::put::{put_number, put_text};
 use text::row::EXACT_BELOW;
 
 // Puts a count of cells.
+#[tactic(auto, unfolding(crate::specs::Said::count_said))]
 fn put_count(k: u32, out: &mut [u8], at: usize) -> usize
     ensures { Put out.old at (count_said k) out.new result }
 {
@@ -17,6 +18,7 @@ fn put_count(k: u32, out: &mut [u8], at: usize) -> usize
 }
 
 // Puts the word for what is counted, with an s unless the count is 1.
+#[tactic(auto, unfolding(crate::specs::Said::plural_said))]
 pub fn put_plural(n: u64, word: &[u8], out: &mut [u8], at: usize) -> usize
     ensures { Put out.old at (plural_said n word.now) out.new result }
 {
@@ -101,12 +103,11 @@ fn put_bad_cell(line: u32, cell: u32, out: &mut [u8], at: usize) -> usize
     put_not_number(cell, out, c)
 }
 
-// Puts a flaw's text, and nothing where there is none; `path` is the file's name.
+// Puts a flaw's text; `path` is the file's name.
 pub fn put_flaw(flaw: Flaw, path: &[u8], out: &mut [u8], at: usize) -> usize
     ensures { Put out.old at (flaw_said path.now flaw) out.new result }
 {
     match flaw {
-        Flaw::Nothing => at,
         Flaw::NoLine => put_text(b"no line, where each is a rule of 2 to 16 cells", out, at),
         Flaw::NotNumber { line, cell } => put_bad_cell(line, cell, out, at),
         Flaw::LoneFeed => put_feed(path, out, at),

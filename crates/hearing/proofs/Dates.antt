@@ -1,16 +1,14 @@
 -- Laws of the flags of D (`specs/Flags.antt`).
---     flag_many, flag_off, flag_on, flag_other      one flag more, way by way
---     read_all, read_few                            at the word's end
 --     colon_stays                                   what has begun has begun
 --     word_flags, flags_are                          a word's flags, byte by byte, come to what they are
 --     one_few, eight_flags                          eight flags as a number: the first stands lowest
 -- Assumes nothing.
-use Prim.Native.Nat.{ℕ, suc, ◌+◌, ◌*◌, ◌≤◌, ◌<◌}
+use Prim.Native.Nat.{ℕ, suc, ◌+◌, ◌*◌, ◌≤◌}
 use mathlib.Core.Bool.{Bool, true, false}
 use mathlib.Core.List.{List, [], ◌∷◌}
 use mathlib.Core.Path.{◌≡◌, refl, ap, ◌∙◌}
 use native.Mathlib.Omega.{arith}
-use borrow.Author.Tests.{le-leb, lt-leb, eq-eqb, ne_eqb, leb-true, leb-false, eqb-true, eqb-false}
+use borrow.Author.Tests.{ne_eqb, leb-true, leb-false, eqb-true, eqb-false}
 use lib.Dec.{leb, eqb}
 use lib.ListN.{length}
 use Rattle.ranges.specs.Numbers.{pick, ◌and◌, ◌or◌, bit}
@@ -19,36 +17,6 @@ use Rattle.text.specs.Cells.{fed}
 use Rattle.hearing.specs.Flags.{all_flags, one_of, next_flag, dates_from, whole_flags, flags_in, flag_with, flags_with, has_colon, all_read, flags_ended}
 use Rattle.hearing.specs.declared.flags.Flags.{Flags}
 use Rattle.hearing.specs.declared.flags.Flags.TheVariants.{Without, Read, Bad}
-
--- ---- one flag more
-module _ (c v b : ℕ) where
-  pub flag_many : 8 ≤ c → Bad ≡ flag_with c v b
-  unfolding flag_with
-  flag_many many = rw (le-leb 8 c many)
-
-  module _ (few : c < 8) where
-    pub flag_off : b ≡ 48 → {w : ℕ} → w ≡ next_flag v 0 → Read (c + 1) w ≡ flag_with c v b
-    unfolding flag_with
-    flag_off off is = rw (lt-leb 8 c few, eq-eqb b 48 off, is)
-
-    module _ (not-off : b ≡ 48 → ⊥) where
-      pub flag_on : b ≡ 49 → {w : ℕ} → w ≡ next_flag v 1 → Read (c + 1) w ≡ flag_with c v b
-      unfolding flag_with
-      flag_on on is = rw (lt-leb 8 c few, ne_eqb b 48 not-off, eq-eqb b 49 on, is)
-
-      pub flag_other : (b ≡ 49 → ⊥) → Bad ≡ flag_with c v b
-      unfolding flag_with
-      flag_other not_on = rw (lt-leb 8 c few, ne_eqb b 48 not-off, ne_eqb b 49 not_on)
-
--- ---- at the word's end
-module _ (c v : ℕ) where
-  pub read_all : c ≡ 8 → Read c v ≡ all_read c v
-  unfolding all_read
-  read_all e = rw (eq-eqb c 8 e)
-
-  pub read_few : (c ≡ 8 → ⊥) → Bad ≡ all_read c v
-  unfolding all_read
-  read_few ne = rw (ne_eqb c 8 ne)
 
 -- ---- what has begun has begun
 colon_more : (c v b : ℕ) → has_colon (flag_with c v b) ≡ true

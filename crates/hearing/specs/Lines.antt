@@ -2,7 +2,8 @@
 -- LF ends it. Read byte by byte, as the code goes. `answer_to` of the crate `calls` speaks of a whole line's bytes instead; that the two
 -- agree is `line_is` there. 32 is the blank, 58 the colon.
 -- Assumes nothing: these are definitions.
-use Rattle.std.specs.Prelude.{ℕ, suc, Bool, true, false, List, [], ◌∷◌, length, set, eqb}
+use Rattle.std.specs.Prelude.{ℕ, Bool, true, false, List, length, set, eqb, not}
+use Rattle.std.specs.List.{take_while}
 use Rattle.ranges.specs.Numbers.{pick}
 use Rattle.text.specs.Rows.{fresh, row_with, row_next, kept_at}
 use Rattle.text.specs.Puts.{place_after}
@@ -14,8 +15,7 @@ use Rattle.hearing.specs.Flags.{flags_with, has_colon}
 
 -- how many bytes stand before the first LF, all of them where there is none
 unfoldable pub line_in : List ℕ → ℕ
-line_in [] = 0
-line_in (b ∷ bs) = pick (eqb b 10) 0 (suc (line_in bs))
+line_in bs = length (take_while (λ b. not (eqb b 10)) bs)
 
 -- a line as far as its bytes have come, with the runs that its word and its numbers go to
 pub record Heard : Type 0 where

@@ -1,6 +1,6 @@
 // The flags of D, as far as their bytes have come: D:FFFFFFFF, eight characters 0 or 1, the first for field 0.
 ghost use Rattle.std.specs.Prelude.{◌≡◌, ◌≤◌};
-ghost use Rattle.hearing.specs.Flags.{next_flag, flag_with, flags_with, has_colon, all_read, flags_ended, dates_of};
+ghost use Rattle.hearing.specs.Flags.{next_flag, flag_with, flags_with, has_colon, flags_ended, dates_of};
 
 // How many flags there are.
 const FLAGS: u32 = 8;
@@ -26,25 +26,17 @@ fn next_flag(dates: u32, flag: u32) -> u32
 }
 
 // Gives the flags with one byte more, which has to be 0 or 1, where there are not eight yet.
+#[tactic(auto, unfolding(crate::specs::Flags::flag_with))]
 fn flag_byte(count: u32, dates: u32, byte: u8) -> Flags
     ensures { result ≡ flag_with count dates byte }
 {
-    if FLAGS <= count {
-        return Flags::Bad;
-    }
-    if byte == b'0' {
-        return Flags::Read {
+    match byte {
+        b'0' | b'1' if count < FLAGS => Flags::Read {
             count: count + 1,
-            dates: next_flag(dates, 0),
-        };
+            dates: next_flag(dates, (byte - b'0') as u32),
+        },
+        _ => Flags::Bad,
     }
-    if byte == b'1' {
-        return Flags::Read {
-            count: count + 1,
-            dates: next_flag(dates, 1),
-        };
-    }
-    Flags::Bad
 }
 
 // Gives the flags with one byte more; where no colon has come, nothing changes.
@@ -52,9 +44,8 @@ pub(crate) fn flags_byte(flags: Flags, byte: u8) -> Flags
     ensures { result ≡ flags_with flags byte }
 {
     match flags {
-        Flags::Without => Flags::Without,
         Flags::Read { count, dates } => flag_byte(count, dates, byte),
-        Flags::Bad => Flags::Bad,
+        Flags::Without | Flags::Bad => flags,
     }
 }
 
@@ -62,31 +53,17 @@ pub(crate) fn flags_byte(flags: Flags, byte: u8) -> Flags
 pub(crate) fn has_colon(flags: Flags) -> bool
     ensures { result ≡ has_colon flags }
 {
-    match flags {
-        Flags::Without => false,
-        Flags::Read { count, dates } => true,
-        Flags::Bad => true,
-    }
-}
-
-// Gives so many flags, and bad ones where they are not eight.
-fn flags_whole(count: u32, dates: u32) -> Flags
-    ensures { result ≡ all_read count dates }
-{
-    if count == FLAGS {
-        return Flags::Read { count, dates };
-    }
-    Flags::Bad
+    !matches!(flags, Flags::Without)
 }
 
 // Ends the flags: fewer than eight are bad.
+#[tactic(auto, unfolding(crate::specs::Flags::all_read))]
 pub fn flags_end(flags: Flags) -> Flags
     ensures { result ≡ flags_ended flags }
 {
     match flags {
-        Flags::Without => Flags::Without,
-        Flags::Read { count, dates } => flags_whole(count, dates),
-        Flags::Bad => Flags::Bad,
+        Flags::Read { count, .. } if count != FLAGS => Flags::Bad,
+        _ => flags,
     }
 }
 
@@ -95,8 +72,7 @@ pub fn dates_of(flags: Flags) -> u32
     ensures { result ≡ dates_of flags }
 {
     match flags {
-        Flags::Without => 0,
-        Flags::Read { count, dates } => dates,
-        Flags::Bad => 0,
+        Flags::Read { dates, .. } => dates,
+        Flags::Without | Flags::Bad => 0,
     }
 }

@@ -31,77 +31,55 @@ pub fn line_start() -> Line
 }
 
 // Gives the line with one byte more of a number: in the first, a colon begins the flags, and what follows belongs to them.
+#[tactic(auto, unfolding(crate::specs::Lines::number_with))]
 fn number_byte(line: Line, byte: u8) -> Line
     ensures { result ≡ number_with line byte }
 {
-    let row = line.row;
-    let length = line.length;
-    let flags = line.flags;
-    if row.cells != 0 {
-        return Line {
-            named: true,
-            length,
-            flags,
-            row: row_byte(row, byte),
-        };
-    }
-    if has_colon(flags) {
-        return Line {
-            named: true,
-            length,
-            flags: flags_byte(flags, byte),
-            row,
-        };
-    }
-    if byte == b':' {
-        return Line {
-            named: true,
-            length,
-            flags: Flags::Read { count: 0, dates: 0 },
-            row,
-        };
+    let heard = Line {
+        named: true,
+        ..line
+    };
+    if line.row.cells == 0 {
+        if has_colon(line.flags) {
+            return Line {
+                flags: flags_byte(line.flags, byte),
+                ..heard
+            };
+        }
+        if byte == b':' {
+            return Line {
+                flags: Flags::Read { count: 0, dates: 0 },
+                ..heard
+            };
+        }
     }
     Line {
-        named: true,
-        length,
-        flags,
-        row: row_byte(row, byte),
+        row: row_byte(line.row, byte),
+        ..heard
     }
 }
 
 // Gives the line with one byte more, which is no line's end: a blank ends the word or a number, any other byte
 // belongs to it.
+#[tactic(auto, unfolding(crate::specs::Lines::heard_byte))]
 fn line_byte(line: Line, byte: u8, name: &mut [u8], numbers: &mut [u32]) -> Line
     ensures { heard result name.new numbers.new
         ≡ heard_byte (heard line name.old numbers.old) byte }
 {
-    let row = line.row;
-    let length = line.length;
-    let flags = line.flags;
-    if line.named {
-        if byte == b' ' {
-            return Line {
-                named: true,
-                length,
-                flags,
-                row: row_next(row, 0, numbers),
-            };
-        }
-        return number_byte(line, byte);
-    }
-    if byte == b' ' {
-        return Line {
+    match (line.named, byte) {
+        (true, b' ') => Line {
+            row: row_next(line.row, 0, numbers),
+            ..line
+        },
+        (true, _) => number_byte(line, byte),
+        (false, b' ') => Line {
             named: true,
-            length,
-            flags,
-            row,
-        };
-    }
-    Line {
-        named: false,
-        length: put_byte(byte, name, length),
-        flags,
-        row,
+            ..line
+        },
+        (false, _) => Line {
+            length: put_byte(byte, name, line.length),
+            ..line
+        },
     }
 }
 
@@ -111,24 +89,16 @@ pub fn hear(line: Line, bytes: &[u8], name: &mut [u8], numbers: &mut [u32]) -> L
         ≡ fed heard_byte (heard line name.old numbers.old) bytes.now }
 {
     let mut present = line;
-    let mut i = 0;
-    while i < bytes.len() {
-        present = line_byte(present, bytes[i], name, numbers);
-        i += 1;
+    for byte in bytes {
+        present = line_byte(present, *byte, name, numbers);
     }
     present
 }
 
 // Says how many bytes stand before the first LF, all of them where there is none.
+#[tactic(auto, unfolding(crate::specs::Lines::line_in))]
 pub fn line_in(bytes: &[u8]) -> usize
     ensures { result ≡ line_in bytes.now }
 {
-    let mut i = 0;
-    while i < bytes.len() {
-        if bytes[i] == b'\n' {
-            return i;
-        }
-        i += 1;
-    }
-    i
+    bytes.iter().take_while(|byte| **byte != b'\n').count()
 }

@@ -19,6 +19,7 @@ use mathlib.Core.Path.{◌≡◌, refl}
 use lib.Dec.{ltb}
 use borrow.Author.Tests.{eqb-false}
 use lib.ListN.{length}
+use Rattle.std.specs.Prelude.{Option, Ok, Err}
 use Rattle.ranges.specs.Numbers.{pick}
 use Rattle.ranges.specs.Refusals.{stands, says_count, count_unless}
 use Rattle.ranges.specs.Prefixes.{prefix_fault, last_of, bounds_of, says_bounds}
@@ -44,9 +45,7 @@ use Rattle.tables.specs.Opening.{view_of, open_fault}
 use Rattle.auditing.specs.declared.audit.Verdict.TheVariants as verdict
 use Rattle.tables.specs.declared.report.Part.TheVariants as part
 use Rattle.lookup.specs.Lookup.{turn_of, after_visit, better, lookup_from, search_of, lookup_of}
-use Rattle.lookup.specs.declared.walk.Walked.{Walked}
-use Rattle.lookup.specs.declared.walk.Walked.TheVariants.{Ran, Broken}
-use Rattle.lookup.specs.declared.walk.Found.{Found}
+use Rattle.lookup.specs.Walk.{Walked}
 use Rattle.lookup.specs.declared.lookup.Looked.{Looked}
 use Rattle.lookup.specs.declared.lookup.Looked.TheVariants as looked
 use Rattle.interface.specs.Answers.{numbers_of, says_in_place}
@@ -116,9 +115,9 @@ report_told R T q =
     (unless PartRefuses (report_fault R T q) (part.Is (size_of v.start q) (v.least q)) (part.Refused (report_fault R T q)) tt (λ r. r))
 
 -- a broken partition is refused with 6
-visited : (w : Walked) (next : Found → ℕ → Looked) → ((x : Found) (u : ℕ) → LookedRefuses (next x u)) → LookedRefuses (after_visit w next)
-visited (Ran x u) next p = p x u
-visited Broken next p = eqb-false 6 0 refl
+visited : (w : Walked) (next : Option ℕ → ℕ → Looked) → ((x : Option ℕ) (u : ℕ) → LookedRefuses (next x u)) → LookedRefuses (after_visit w next)
+visited (Ok x) next p = p x.found x.tests
+visited (Err x) next p = eqb-false 6 0 refl
 
 module _ (R : Rules) (h : List ℕ) (turn : ℕ → ℕ → Walked) where
   searched : (k q best t : ℕ) → LookedRefuses (lookup_from R h turn k q best t)

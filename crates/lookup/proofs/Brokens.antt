@@ -17,6 +17,7 @@ use mathlib.Core.Path.{◌≡◌, refl, sym, ◌∙◌}
 use native.Mathlib.Omega.{arith}
 use lib.Dec.{ltb, leb, eqb}
 use borrow.Author.Tests.{ltb-true, ltb-false, leb-true, leb-false, eqb-false}
+use Rattle.std.specs.Prelude.{Option, Some, Ok, Err}
 use Rattle.ranges.specs.Numbers.{pick, ◌and◌}
 use Rattle.ranges.specs.declared.side.Side.{Side}
 use Rattle.ranges.specs.declared.side.Side.TheVariants.{Below, Above, Inside}
@@ -24,14 +25,8 @@ use Rattle.ranges.proofs.Numbers.{never, true-not-false}
 use Rattle.lists.specs.Rules.{Rules, fields_of, rules_in}
 use Rattle.lists.specs.FirstMatch.{side_at, fits}
 use Rattle.tables.specs.Layout.{View}
-use Rattle.lookup.specs.Walk.{mid_of, run_stands, leaves, step_at, step_of, arrived_of, walk_from}
+use Rattle.lookup.specs.Walk.{Walked, Stepped, ran, broken_walk, on, broken_step, mid_of, run_stands, leaves, step_at, step_of, arrived_of, walk_from}
 use Rattle.lookup.specs.Lookup.{visit_of}
-use Rattle.lookup.specs.declared.walk.Found.{Found}
-use Rattle.lookup.specs.declared.walk.Found.TheVariants.{Hit}
-use Rattle.lookup.specs.declared.walk.Walked.{Walked}
-use Rattle.lookup.specs.declared.walk.Walked.TheVariants.{Ran, Broken}
-use Rattle.lookup.specs.declared.walk.Step.{Step}
-use Rattle.lookup.specs.declared.walk.Step.TheVariants.{On, Broken as StepBroken}
 use Rattle.lookup.proofs.Steps.{Trusted, trusted_stands, Tested, tested, tested_fault, test, step-smaller}
 use Rattle.lookup.proofs.Arrivals.{Arrived, arrived}
 use Rattle.lookup.proofs.Walks.{Turn, empties, ends, breaks, goes_on, turn, walk_empty, walk_arrives, walk_breaks, walk_on}
@@ -41,7 +36,7 @@ use Rattle.lookup.proofs.Visits.{visit_none, visit_past, visit_walks}
 -- the walk on places s to before e at field f reaches places s' to before e' at field f': at once, or after a test that leaves what reaches them
 pub data Reaches (R : Rules) (v : View) (h : List ℕ) : ℕ → ℕ → ℕ → ℕ → ℕ → ℕ → Type 0 where
   at_once : (s e f : ℕ) → Reaches R v h s e f s e f
-  by_test : (s e f s₁ e₁ f₁ s' e' f' : ℕ) → s < e → f < fields_of R → step_of R v h s e f ≡ On s₁ e₁ f₁
+  by_test : (s e f s₁ e₁ f₁ s' e' f' : ℕ) → s < e → f < fields_of R → step_of R v h s e f ≡ on s₁ e₁ f₁
       → Reaches R v h s₁ e₁ f₁ s' e' f' → Reaches R v h s e f s' e' f'
 
 -- "at a step: the rule number at mid is n or more, or group start ≤ run-from ≤ mid < run-to ≤ group end fails"
@@ -77,26 +72,26 @@ pub data BrokenPart (R : Rules) (v : View) (h : List ℕ) (q : ℕ) : Type 0 whe
 -- ---- one test
 module _ (R : Rules) (v : View) (h : List ℕ) (s e f m : ℕ) where
   -- a test that is made leaves something
-  goes_somewhere : (x : Side) (a b : ℕ) → leaves x s e f a b ≡ StepBroken → ⊥
+  goes_somewhere : (x : Side) (a b : ℕ) → leaves x s e f a b ≡ broken_step → ⊥
   goes_somewhere Below a b is = never (cc)
   goes_somewhere Above a b is = never (cc)
   goes_somewhere Inside a b is = never (cc)
 
   -- a broken step met a condition, and where one is met the step is broken
-  step_met : step_at R v h s e f m ≡ StepBroken → BrokenStep R v s e f m
+  step_met : step_at R v h s e f m ≡ broken_step → BrokenStep R v s e f m
   unfolding step_at
   step_met = go (ltb (v.order m) (rules_in R)) (run_stands s e m (v.from m f) (v.to m f)) refl refl
     where
       go : (p q : Bool) → ltb (v.order m) (rules_in R) ≡ p → run_stands s e m (v.from m f) (v.to m f) ≡ q
-          → pick (p and q) (leaves (side_at R h (v.order m) f) s e f (v.from m f) (v.to m f)) StepBroken ≡ StepBroken → BrokenStep R v s e f m
+          → pick (p and q) (leaves (side_at R h (v.order m) f) s e f (v.from m f) (v.to m f)) broken_step ≡ broken_step → BrokenStep R v s e f m
       go false q is_p is_q is = no_such_rule (ltb-false (v.order m) (rules_in R) is_p)
       go true false is_p is_q is = run_astray (λ t. true-not-false (trusted_stands t) is_q)
       go true true is_p is_q is = absurd (goes_somewhere (side_at R h (v.order m) f) (v.from m f) (v.to m f) is)
 
-  step_breaks : BrokenStep R v s e f m → step_at R v h s e f m ≡ StepBroken
+  step_breaks : BrokenStep R v s e f m → step_at R v h s e f m ≡ broken_step
   step_breaks broken = go broken (test R v h s e f m)
     where
-      go : {x : Step} → BrokenStep R v s e f m → Tested R v h s e f m x → x ≡ StepBroken
+      go : {x : Stepped} → BrokenStep R v s e f m → Tested R v h s e f m x → x ≡ broken_step
       go broken tested_fault = refl
       go (no_such_rule le) (tested x rule run outcome) = absurd (omega arith)
       go (run_astray not_so) (tested x rule run outcome) = absurd (not_so run)
@@ -104,33 +99,33 @@ module _ (R : Rules) (v : View) (h : List ℕ) (s e f m : ℕ) where
 -- ---- the end at field d
 module _ (R : Rules) (v : View) (h : List ℕ) (s e t : ℕ) where
   -- the same of the end
-  end_met : arrived_of R v h s e t ≡ Broken → BrokenEnd R v h s e
+  end_met : arrived_of R v h s e t ≡ broken_walk → BrokenEnd R v h s e
   unfolding arrived_of
   end_met = go (eqb e (s + 1)) (ltb (v.order s) (rules_in R)) (fits R h (v.order s)) refl refl refl
     where
       go : (o p q : Bool) → eqb e (s + 1) ≡ o → ltb (v.order s) (rules_in R) ≡ p → fits R h (v.order s) ≡ q
-          → pick (o and p and q) (Ran (Hit (v.order s)) t) Broken ≡ Broken → BrokenEnd R v h s e
+          → pick (o and p and q) (ran (Some (v.order s)) t) broken_walk ≡ broken_walk → BrokenEnd R v h s e
       go false p q is-o is_p is_q is = not_one_place (eqb-false e (s + 1) is-o)
       go true false q is-o is_p is_q is = no_such_candidate (ltb-false (v.order s) (rules_in R) is_p)
       go true true false is-o is_p is_q is = not_confirmed is_q
       go true true true is-o is_p is_q is = never (cc)
 
-  end_breaks : BrokenEnd R v h s e → arrived_of R v h s e t ≡ Broken
+  end_breaks : BrokenEnd R v h s e → arrived_of R v h s e t ≡ broken_walk
   end_breaks broken = go (arrived_of R v h s e t) refl
     where
-      against : {x : Found} {u : ℕ} → BrokenEnd R v h s e → Arrived R v h s e t x u → ⊥
+      against : {x : Option ℕ} {u : ℕ} → BrokenEnd R v h s e → Arrived R v h s e t x u → ⊥
       against (not_one_place many) a = many a.one
       against (no_such_candidate le) a = omega (arith, a.rule)
       against (not_confirmed unfit) a = true-not-false a.fit unfit
 
-      go : (w : Walked) → arrived_of R v h s e t ≡ w → w ≡ Broken
-      go Broken is = refl
-      go (Ran x u) is = absurd (against broken (arrived R v h s e t x u is))
+      go : (w : Walked) → arrived_of R v h s e t ≡ w → w ≡ broken_walk
+      go (Err x) is = refl
+      go (Ok x) is = absurd (against broken (arrived R v h s e t x.found x.tests is))
 
 -- ---- a walk
 module _ (R : Rules) (v : View) (h : List ℕ) where
   -- one test more
-  walk_longer : {s e f : ℕ} (s₁ e₁ f₁ : ℕ) → s < e → f < fields_of R → step_of R v h s e f ≡ On s₁ e₁ f₁ → BrokenWalk R v h s₁ e₁ f₁ → BrokenWalk R v h s e f
+  walk_longer : {s e f : ℕ} (s₁ e₁ f₁ : ℕ) → s < e → f < fields_of R → step_of R v h s e f ≡ on s₁ e₁ f₁ → BrokenWalk R v h s₁ e₁ f₁ → BrokenWalk R v h s e f
   walk_longer {s} {e} {f} s₁ e₁ f₁ some in_row is w =
       record {
         s = w.s;
@@ -141,12 +136,12 @@ module _ (R : Rules) (v : View) (h : List ℕ) where
       }
 
   -- where tests are enough, a broken walk met a condition
-  walk_met : (k s e f t : ℕ) → (e - s) + (fields_of R - f) < k → f ≤ fields_of R → walk_from R v h k s e f t ≡ Broken → BrokenWalk R v h s e f
+  walk_met : (k s e f t : ℕ) → (e - s) + (fields_of R - f) < k → f ≤ fields_of R → walk_from R v h k s e f t ≡ broken_walk → BrokenWalk R v h s e f
   walk_met zero s e f t enough upto is = absurd (omega arith)
   walk_met (suc k) s e f t enough upto is = go (turn R v h s e f) (walk_met k)
     where
       go : Turn R v h s e f
-          → ((s e f t : ℕ) → (e - s) + (fields_of R - f) < k → f ≤ fields_of R → walk_from R v h k s e f t ≡ Broken → BrokenWalk R v h s e f)
+          → ((s e f t : ℕ) → (e - s) + (fields_of R - f) < k → f ≤ fields_of R → walk_from R v h k s e f t ≡ broken_walk → BrokenWalk R v h s e f)
           → BrokenWalk R v h s e f
       go (empties none) rest = let miss = sym (walk_empty R v h k s e f t none) ∙ is in never (cc)
       go (ends some at-end) rest =
@@ -160,27 +155,27 @@ module _ (R : Rules) (v : View) (h : List ℕ) where
           (rest s₁ e₁ f₁ (t + 1) (omega (arith, less.falls)) less.field (sym (walk_on R v h k s e f t some in_row s₁ e₁ f₁ step) ∙ is))
 
   -- a walk is broken at a group that is
-  here_breaks : (k s e f t : ℕ) → BrokenAt R v h s e f → walk_from R v h (suc k) s e f t ≡ Broken
+  here_breaks : (k s e f t : ℕ) → BrokenAt R v h s e f → walk_from R v h (suc k) s e f t ≡ broken_walk
   here_breaks k s e f t (at_a_step some in_row broken) = walk_breaks R v h k s e f t some in_row (step_breaks R v h s e f (mid_of s e) broken)
   here_breaks k s e f t (at_field_d some at-d broken) = walk_arrives R v h k s e f t some (omega arith) ∙ end_breaks R v h s e t broken
 
   -- and at every group from which it reaches one
   reached_breaks : (k t : ℕ) {s e f s' e' f' : ℕ} → (e - s) + (fields_of R - f) < k → Reaches R v h s e f s' e' f' → BrokenAt R v h s' e' f'
-      → walk_from R v h k s e f t ≡ Broken
+      → walk_from R v h k s e f t ≡ broken_walk
   reached_breaks zero t enough reached broken = absurd (omega arith)
   reached_breaks (suc k) t enough (at_once s e f) broken = here_breaks k s e f t broken
   reached_breaks (suc k) t enough (by_test s e f s₁ e₁ f₁ s' e' f' some in_row is rest) broken =
       let less = step-smaller R v h (fields_of R) s e f s₁ e₁ f₁ some in_row is in
       walk_on R v h k s e f t some in_row s₁ e₁ f₁ is ∙ reached_breaks k (t + 1) (omega (arith, less.falls)) rest broken
 
-  pub walk_broken_iff : (k s e f t : ℕ) → (e - s) + (fields_of R - f) < k → f ≤ fields_of R → (walk_from R v h k s e f t ≡ Broken) ↔ BrokenWalk R v h s e f
+  pub walk_broken_iff : (k s e f t : ℕ) → (e - s) + (fields_of R - f) < k → f ≤ fields_of R → (walk_from R v h k s e f t ≡ broken_walk) ↔ BrokenWalk R v h s e f
   walk_broken_iff k s e f t enough upto = (walk_met k s e f t enough upto, λ w. reached_breaks k t enough w.reached w.broken)
 
 -- ---- a partition visited
-pub visit_broken_iff : (R : Rules) (v : View) (h : List ℕ) (q : ℕ) → (visit_of R v h q ≡ Broken) ↔ BrokenPart R v h q
+pub visit_broken_iff : (R : Rules) (v : View) (h : List ℕ) (q : ℕ) → (visit_of R v h q ≡ broken_walk) ↔ BrokenPart R v h q
 visit_broken_iff R v h q = go (ltb (v.start q) (v.start (suc q))) refl (leb (v.start (suc q)) (rules_in R)) refl
   where
-    go : (p : Bool) → ltb (v.start q) (v.start (suc q)) ≡ p → (r : Bool) → leb (v.start (suc q)) (rules_in R) ≡ r → (visit_of R v h q ≡ Broken) ↔ BrokenPart R v h q
+    go : (p : Bool) → ltb (v.start q) (v.start (suc q)) ≡ p → (r : Bool) → leb (v.start (suc q)) (rules_in R) ≡ r → (visit_of R v h q ≡ broken_walk) ↔ BrokenPart R v h q
     go false is_p r is_r = let none = ltb-false (v.start q) (v.start (suc q)) is_p in (λ is. no_place none, λ broken. visit_none R v h q none)
     go true is_p false is_r =
         let some = ltb-true (v.start q) (v.start (suc q)) is_p in
@@ -194,8 +189,8 @@ visit_broken_iff R v h q = go (ltb (v.start q) (v.start (suc q))) refl (leb (v.s
         let iff = walk_broken_iff R v h k (v.start q) (v.start (suc q)) 0 0 (omega arith) (omega arith) in
         (λ is. in_walk (iff.0 (sym walks ∙ is)), met some within (λ w. walks ∙ iff.1 w))
       where
-        met : v.start q < v.start (suc q) → v.start (suc q) ≤ rules_in R → (BrokenWalk R v h (v.start q) (v.start (suc q)) 0 → visit_of R v h q ≡ Broken)
-            → BrokenPart R v h q → visit_of R v h q ≡ Broken
+        met : v.start q < v.start (suc q) → v.start (suc q) ≤ rules_in R → (BrokenWalk R v h (v.start q) (v.start (suc q)) 0 → visit_of R v h q ≡ broken_walk)
+            → BrokenPart R v h q → visit_of R v h q ≡ broken_walk
         met some within by_walk (no_place none) = absurd (omega arith)
         met some within by_walk (past_n past) = absurd (omega arith)
         met some within by_walk (in_walk w) = by_walk w

@@ -10,6 +10,7 @@ use native.Mathlib.Omega.{arith}
 use lib.ListN.{get_or}
 use lib.Dec.{ltb}
 use borrow.Author.Tests.{ltb-true, ltb-false}
+use Rattle.std.specs.Prelude.{Option, Some, None}
 use Rattle.ranges.specs.declared.side.Side.{Side}
 use Rattle.ranges.specs.declared.side.Side.TheVariants.{Below, Above, Inside}
 use Rattle.ranges.proofs.Sides.{is_below, is_above, is_inside_lem}
@@ -17,12 +18,7 @@ use Rattle.lists.specs.Rules.{Rules, fields_of, rules_in, low_of, ends_at}
 use Rattle.lists.specs.FirstMatch.{side_at, fits}
 use Rattle.tables.specs.Layout.{View}
 use Rattle.sorting.specs.Promise.{InPart, Promise}
-use Rattle.lookup.specs.Walk.{mid_of, leaves, step_at, walk_from}
-use Rattle.lookup.specs.declared.walk.Found.{Found}
-use Rattle.lookup.specs.declared.walk.Found.TheVariants.{Hit, Miss}
-use Rattle.lookup.specs.declared.walk.Walked.{Walked}
-use Rattle.lookup.specs.declared.walk.Walked.TheVariants.{Ran}
-use Rattle.lookup.specs.declared.walk.Step.TheVariants.{On}
+use Rattle.lookup.specs.Walk.{Walked, ran, on, mid_of, leaves, step_at, walk_from}
 use Rattle.lookup.proofs.Arrivals.{arrived_yes}
 use Rattle.lookup.proofs.Steps.{trusted_stands, step_by, step-smaller}
 use Rattle.lookup.proofs.Walks.{walk_empty, walk_arrives, walk_on}
@@ -30,10 +26,10 @@ use Rattle.lookup.proofs.Groups.{Held, held_part, placed_rule, run_trusted, held
 
 -- w is an answer, which names the rule of the partition that fits, if there is one
 pub record Finds (R : Rules) (v : View) (h : List ℕ) (q : ℕ) (w : Walked) : Type 0 where
-  pub found : Found
+  pub found : Option ℕ
   pub tests : ℕ
-  pub is : w ≡ Ran found tests
-  pub finds : (r : ℕ) → InPart v q r → fits R h (v.order r) ≡ true → found ≡ Hit (v.order r)
+  pub is : w ≡ ran found tests
+  pub finds : (r : ℕ) → InPart v q r → fits R h (v.order r) ≡ true → found ≡ Some (v.order r)
 
 finds_by : {R : Rules} {v : View} {h : List ℕ} {q : ℕ} {w w' : Walked} → w ≡ w' → Finds R v h q w' → Finds R v h q w
 finds_by same f = record { found = f.found; tests = f.tests; is = same ∙ f.is; finds = f.finds }
@@ -43,7 +39,7 @@ record Leaves (R : Rules) (v : View) (h : List ℕ) (q s e f m : ℕ) : Type 0 w
   start : ℕ
   end : ℕ
   field : ℕ
-  step : step_at R v h s e f m ≡ On start end field
+  step : step_at R v h s e f m ≡ on start end field
   rest : Held R v h q start end field
 
 module _ {R : Rules} {v : View} (h : List ℕ) (promise : Promise R v) where
@@ -96,7 +92,7 @@ module _ {R : Rules} {v : View} (h : List ℕ) (promise : Promise R v) where
       go false is-o p is_p rest =
           let none = ltb-false s e is-o in
           record {
-            found = Miss;
+            found = None;
             tests = t;
             is = walk_empty R v h k s e f t none;
             finds = λ r in-r fit. let at = held.covers r in-r fit in absurd (omega (arith, at.0, at.1));
@@ -108,13 +104,13 @@ module _ {R : Rules} {v : View} (h : List ℕ) (promise : Promise R v) where
           let last = rw at-end at held in
           let one = one_left promise last some in
           record {
-            found = Hit (v.order s);
+            found = Some (v.order s);
             tests = t;
             is = walk_arrives R v h k s e f t some (omega arith) ∙ arrived_yes R v h s e t one (last_rule promise last some) (last_fits promise last some);
             finds = λ r in-r fit.
                 let at = held.covers r in-r fit in
                 let is-s : s ≡ r = omega (arith, at.0, at.1, one) in
-                ap (λ p. Hit (v.order p)) is-s;
+                ap (λ p. Some (v.order p)) is-s;
           }
       -- a test, and the walk on what it leaves
       go true is-o true is_p rest =

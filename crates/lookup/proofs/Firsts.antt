@@ -15,6 +15,7 @@ use mathlib.Core.Path.{◌≡◌, refl, sym, ap, ◌∙◌, subst}
 use native.Mathlib.Omega.{arith}
 use lib.Dec.{ltb}
 use borrow.Author.Tests.{ltb-true, ltb-false, eq-eqb}
+use Rattle.std.specs.Prelude.{Option, Some, None}
 use Rattle.ranges.specs.Numbers.{least}
 use Rattle.ranges.specs.Refusals.{none}
 use Rattle.ranges.proofs.Numbers.{never, and_right, least_is, least-none}
@@ -26,12 +27,9 @@ use Rattle.tables.specs.Layout.{View, TableFor}
 use Rattle.tables.specs.Opening.{view_of, open_fault}
 use Rattle.sorting.specs.Promise.{InPart, Promise}
 use Rattle.tables.proofs.Opened.{opening_last, open_stands}
+use Rattle.lookup.specs.Walk.{Walked, ran}
 use Rattle.lookup.specs.Lookup.{skips, turn_of, visit_of, better, answer_of, lookup_from, search_of, search_all, lookup_of, tests_in}
 use Rattle.lookup.specs.Bounds.{tests_of, candidate, turn_made, refuses}
-use Rattle.lookup.specs.declared.walk.Found.{Found}
-use Rattle.lookup.specs.declared.walk.Found.TheVariants.{Hit, Miss}
-use Rattle.lookup.specs.declared.walk.Walked.{Walked}
-use Rattle.lookup.specs.declared.walk.Walked.TheVariants.{Ran}
 use Rattle.lookup.specs.declared.lookup.Looked.{Looked}
 use Rattle.lookup.proofs.Returned.{visit_fits, sooner_fits}
 use Rattle.lookup.proofs.Named.{Matches}
@@ -105,11 +103,11 @@ module _ {R : Rules} {v : View} (h : List ℕ) (promise : Promise R v) where
           is ∙ sym (least-none (fits R h) (rules_in R) (λ k lt. none-under best named k (omega arith)))
 
   -- ---- one partition more
-  better_le : (best : ℕ) (x : Found) → better best x ≤ best
-  better_le best Miss = omega arith
-  better_le best (Hit i) = omega arith
+  better_le : (best : ℕ) (x : Option ℕ) → better best x ≤ best
+  better_le best None = omega arith
+  better_le best (Some i) = omega arith
 
-  better_hit : (best i : ℕ) (x : Found) → x ≡ Hit i → better best x ≤ i
+  better_hit : (best i : ℕ) (x : Option ℕ) → x ≡ Some i → better best x ≤ i
   better_hit best i x is = rw is (min_le best i)
     where
       min_le : (a c : ℕ) → min a c ≤ c
@@ -118,10 +116,10 @@ module _ {R : Rules} {v : View} (h : List ℕ) (promise : Promise R v) where
   -- what a turn of partition q does that leaves nothing out: it names a rule that matches, or none, and with it no rule of the partition that
   -- fits is smaller than the candidate
   record Takes (q best : ℕ) (w : Walked) : Type 0 where
-    found : Found
+    found : Option ℕ
     tests : ℕ
-    is : w ≡ Ran found tests
-    match : (i : ℕ) → found ≡ Hit i → Matches R h i
+    is : w ≡ ran found tests
+    match : (i : ℕ) → found ≡ Some i → Matches R h i
     first : (p : ℕ) → InPart v q p → fits R h (v.order p) ≡ true → better best found ≤ v.order p
 
   visit_takes : (q best : ℕ) → q < v.b → Takes q best (visit_of R v h q)
@@ -131,7 +129,7 @@ module _ {R : Rules} {v : View} (h : List ℕ) (promise : Promise R v) where
         found = f.found;
         tests = f.tests;
         is = f.is;
-        match = λ i is. visit_fits R v h q i f.tests (f.is ∙ ap (λ x. Ran x f.tests) is);
+        match = λ i is. visit_fits R v h q i f.tests (f.is ∙ ap (λ x. ran x f.tests) is);
         first = λ p at fit. better_hit best (v.order p) f.found (f.finds p at fit);
       }
 
@@ -143,7 +141,7 @@ module _ {R : Rules} {v : View} (h : List ℕ) (promise : Promise R v) where
       go true e =
           let past : best < v.least q = ltb-true best (v.least q) (and_right (ltb best (rules_in R)) (ltb best (v.least q)) e) in
           record {
-            found = Miss;
+            found = None;
             tests = 0;
             is = turn_skipped R v h best q e;
             match = λ i is. never (cc);

@@ -16,6 +16,7 @@ use lib.ListN.{get_or, get_or-replicate}
 use lib.Dec.{ltb}
 use lib.Pow.{pow_pos}
 use borrow.Author.Tests.{lt-ltb, ltb-true, ltb-false}
+use Rattle.std.specs.Prelude.{Some}
 use Rattle.ranges.specs.Refusals.{none}
 use Rattle.ranges.specs.Sides.{is_inside}
 use Rattle.ranges.specs.declared.side.Side.{Side}
@@ -46,12 +47,10 @@ use Rattle.sorting.proofs.Partitions.Parts.{parts-over, parts-least}
 use Rattle.sorting.proofs.Partitions.FirstFits.{free_yes, fit_is, first_fit_at}
 use Rattle.sorting.proofs.Sorted.Reading.{read-parts, table_sized}
 use Rattle.sorting.proofs.Sorted.Built.{built_keeps_promise}
-use Rattle.lookup.specs.Walk.{mid_of, leaves, step_at, walk_from}
+use Rattle.lookup.specs.Walk.{ran, mid_of, leaves, step_at, walk_from}
 use Rattle.lookup.specs.Lookup.{turn_of, visit_of, answer_of, lookup_from, search_of, lookup_of}
 use Rattle.lookup.specs.Bounds.{PowerWithin, ladder}
 use Rattle.lists.specs.Headers.{zeros}
-use Rattle.lookup.specs.declared.walk.Found.TheVariants.{Hit}
-use Rattle.lookup.specs.declared.walk.Walked.TheVariants.{Ran}
 use Rattle.lookup.specs.declared.lookup.Looked.TheVariants.{Rule}
 use Rattle.lookup.proofs.Arrivals.{arrived_yes}
 use Rattle.lookup.proofs.Steps.{trusted_stands, step_by}
@@ -261,25 +260,25 @@ module _ (d dates m : ℕ) (some : 1 ≤ d) (few : d ≤ 8) (rules : 1 ≤ m) (v
   unfolding fits
   first_fits = all_yes (inside_at (ladder d dates m) zeros (v.order 0)) d (λ f in_row. ap is_inside (first_inside f in_row))
 
-  walk_one : (k f t : ℕ) → d - f < k → f ≤ d → walk_from (ladder d dates m) v zeros k 0 1 f t ≡ Ran (Hit 0) (t + (d - f))
+  walk_one : (k f t : ℕ) → d - f < k → f ≤ d → walk_from (ladder d dates m) v zeros k 0 1 f t ≡ ran (Some 0) (t + (d - f))
   walk_one zero f t enough le = absurd (omega arith)
   walk_one (suc k) f t enough le = go (ltb f d) refl (walk_one k)
     where
-      go : (p : Bool) → ltb f d ≡ p → ((f t : ℕ) → d - f < k → f ≤ d → walk_from (ladder d dates m) v zeros k 0 1 f t ≡ Ran (Hit 0) (t + (d - f)))
-          → walk_from (ladder d dates m) v zeros (suc k) 0 1 f t ≡ Ran (Hit 0) (t + (d - f))
+      go : (p : Bool) → ltb f d ≡ p → ((f t : ℕ) → d - f < k → f ≤ d → walk_from (ladder d dates m) v zeros k 0 1 f t ≡ ran (Some 0) (t + (d - f)))
+          → walk_from (ladder d dates m) v zeros (suc k) 0 1 f t ≡ ran (Some 0) (t + (d - f))
       go true e rest =
           let in_row = ltb-true f d e in
           let count : t + 1 + (d - (f + 1)) ≡ t + (d - f) = omega arith in
           walk_on (ladder d dates m) v zeros k 0 1 f t (omega arith) in_row 0 1 (f + 1) (test_at 1 f 0 Inside (omega arith) rules in_row (first_inside f in_row))
           ∙ rest (f + 1) (t + 1) (omega arith) (omega arith)
-          ∙ ap (Ran (Hit 0)) count
+          ∙ ap (ran (Some 0)) count
       go false e rest =
           let at-end = ltb-false f d e in
           let count : t ≡ t + (d - f) = omega arith in
           walk_arrives (ladder d dates m) v zeros k 0 1 f t (omega arith) at-end
           ∙ arrived_yes (ladder d dates m) v zeros 0 1 t refl (promise.order_rule 0 (omega (arith, n_is))) first_fits
-          ∙ ap (λ i. Ran (Hit i) t) order_first
-          ∙ ap (Ran (Hit 0)) count
+          ∙ ap (λ i. ran (Some i) t) order_first
+          ∙ ap (ran (Some 0)) count
 
   -- the header is below every other rule, so a larger group is halved
   later_below : (p : ℕ) → 0 < p → p < m → side_at (ladder d dates m) zeros (v.order p) 0 ≡ Below
@@ -287,11 +286,11 @@ module _ (d dates m : ℕ) (some : 1 ≤ d) (few : d ≤ 8) (rules : 1 ≤ m) (v
       let R = ladder d dates m in
       side_below (low_of R (v.order p) 0) (ends_at R (v.order p) 0) (get_or zeros 0 0) (omega (arith, low p 0 lt some, order_later p pos lt, zero_at 0 some))
 
-  walk_ladder : (j k e t : ℕ) → PowerWithin e j → e ≤ m → e + d < k → walk_from (ladder d dates m) v zeros k 0 e 0 t ≡ Ran (Hit 0) (t + d + j)
+  walk_ladder : (j k e t : ℕ) → PowerWithin e j → e ≤ m → e + d < k → walk_from (ladder d dates m) v zeros k 0 e 0 t ≡ ran (Some 0) (t + d + j)
   walk_ladder zero k e t power le enough =
       let is-1 : e ≡ 1 = omega (arith, power.within, power.largest) in
       let count : t + (d - 0) ≡ t + d + 0 = omega arith in
-      ap (λ x. walk_from (ladder d dates m) v zeros k 0 x 0 t) is-1 ∙ walk_one k 0 t (omega arith) (omega arith) ∙ ap (Ran (Hit 0)) count
+      ap (λ x. walk_from (ladder d dates m) v zeros k 0 x 0 t) is-1 ∙ walk_one k 0 t (omega arith) (omega arith) ∙ ap (ran (Some 0)) count
   walk_ladder (suc j) zero e t power le enough = absurd (omega arith)
   walk_ladder (suc j) (suc k) e t power le enough =
       let p = mid_of 0 e in
@@ -304,9 +303,9 @@ module _ (d dates m : ℕ) (some : 1 ≤ d) (few : d ≤ 8) (rules : 1 ≤ m) (v
       let count : t + 1 + d + j ≡ t + d + suc j = omega arith in
       walk_on (ladder d dates m) v zeros k 0 e 0 t (omega arith) some 0 p 0 (test_at e 0 p Below inner le some (later_below p past (omega arith)))
       ∙ walk_ladder j k p (t + 1) half (omega arith) (omega arith)
-      ∙ ap (Ran (Hit 0)) count
+      ∙ ap (ran (Some 0)) count
 
-  visit_ladder : (j : ℕ) → PowerWithin m j → visit_of (ladder d dates m) v zeros 0 ≡ Ran (Hit 0) (d + j)
+  visit_ladder : (j : ℕ) → PowerWithin m j → visit_of (ladder d dates m) v zeros 0 ≡ ran (Some 0) (d + j)
   visit_ladder j power =
       let R = ladder d dates m in
       let start = promise.first_start in
@@ -315,7 +314,7 @@ module _ (d dates m : ℕ) (some : 1 ≤ d) (few : d ≤ 8) (rules : 1 ≤ m) (v
       ∙ ap (λ s. walk_from R v zeros (suc (rules_in R + d)) s (v.start 1) 0 0) start
       ∙ ap (λ e. walk_from R v zeros (suc (rules_in R + d)) 0 e 0 0) end
       ∙ walk_ladder j (suc (rules_in R + d)) m 0 power (omega arith) (omega (arith, n_is))
-      ∙ ap (Ran (Hit 0)) count
+      ∙ ap (ran (Some 0)) count
 
   -- 0 is the low end of rule 0 in every field
   first_edge : edge_of (ladder d dates m) zeros 0 ≡ true
@@ -341,7 +340,7 @@ module _ (d dates m : ℕ) (some : 1 ≤ d) (few : d ≤ 8) (rules : 1 ≤ m) (v
       let turn = turn_of R v zeros in
       let visits : turn n 0 ≡ visit_of R v zeros 0 = turn_visits R v zeros n 0 (sym (skips-not n v.least n 0 (omega arith))) in
       ap (λ b. lookup_from R zeros turn b 0 n 0) one
-      ∙ from_on R zeros turn 0 0 n 0 (Hit 0) (d + j) (visits ∙ visit_ladder j power)
+      ∙ from_on R zeros turn 0 0 n 0 (Some 0) (d + j) (visits ∙ visit_ladder j power)
       ∙ from_none R zeros turn 1 (min n 0) (0 + (d + j))
       ∙ ap (λ b. answer_of R zeros b (0 + (d + j))) first
       ∙ ap (λ t. answer_of R zeros 0 t) count

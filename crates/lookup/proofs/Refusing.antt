@@ -13,6 +13,7 @@ use native.Mathlib.Omega.{arith}
 use lib.ListN.{length}
 use lib.Dec.{ltb, eqb}
 use borrow.Author.Tests.{ltb-true, ltb-false}
+use Rattle.std.specs.Prelude.{Option, Ok, Err}
 use Rattle.ranges.specs.Numbers.{pick, ◌or◌}
 use Rattle.ranges.specs.Refusals.{none, refused, or_else, stands, BadFields, BadLength, TooManyRules, BadTableLength, BrokenTable}
 use Rattle.ranges.specs.declared.refusal.Refusal.{Refusal}
@@ -23,11 +24,9 @@ use Rattle.lists.specs.Edges.{edge_of}
 use Rattle.lists.specs.Faults.{shape_fault}
 use Rattle.tables.specs.Layout.{View, table_length}
 use Rattle.tables.specs.Opening.{opening, view_of, open_fault}
+use Rattle.lookup.specs.Walk.{Walked, ran, broken_walk}
 use Rattle.lookup.specs.Lookup.{turn_of, answer_of, lookup_from, search_of, lookup_of}
 use Rattle.lookup.specs.Bounds.{candidate, turn_made, is_skipped, refuses}
-use Rattle.lookup.specs.declared.walk.Found.{Found}
-use Rattle.lookup.specs.declared.walk.Walked.{Walked}
-use Rattle.lookup.specs.declared.walk.Walked.TheVariants.{Ran, Broken}
 use Rattle.lookup.specs.declared.lookup.Looked.{Looked}
 use Rattle.lookup.specs.declared.lookup.Looked.TheVariants.{Rule, Nothing, Refused}
 use Rattle.lookup.proofs.Turns.{turn_skipped, turn_visits, onward, from_none, made_broken, made_on}
@@ -84,22 +83,22 @@ module _ (R : Rules) (h : List ℕ) (turn : ℕ → ℕ → Walked) where
     part : ℕ
     from : q ≤ part
     to : part < q + k
-    broken : made part ≡ Broken
-    before : (p : ℕ) → q ≤ p → p < part → made p ≡ Broken → ⊥
+    broken : made part ≡ broken_walk
+    before : (p : ℕ) → q ≤ p → p < part → made p ≡ broken_walk → ⊥
 
   -- where partition q was not broken, one that is and is not before it comes after it
-  broken_later : (p q : ℕ) (y : Found) (u : ℕ) → made q ≡ Ran y u → made p ≡ Broken → q ≤ p → q < p
+  broken_later : (p q : ℕ) (y : Option ℕ) (u : ℕ) → made q ≡ ran y u → made p ≡ broken_walk → q ≤ p → q < p
   broken_later p q y u at is a = go (ltb q p) refl
     where
       go : (c : Bool) → ltb q p ≡ c → q < p
       go true e = ltb-true q p e
       go false e =
           let is_q : p ≡ q = omega (arith, ltb-false q p e) in
-          let both : Broken ≡ Ran y u = sym is ∙ ap made is_q ∙ at in
+          let both : broken_walk ≡ ran y u = sym is ∙ ap made is_q ∙ at in
           never (cc)
 
   -- one partition more, which was not broken
-  stopped_later : (k q : ℕ) (x : Refusal) (y : Found) (u : ℕ) → made q ≡ Ran y u → Stopped k (suc q) x → Stopped (suc k) q x
+  stopped_later : (k q : ℕ) (x : Refusal) (y : Option ℕ) (u : ℕ) → made q ≡ ran y u → Stopped k (suc q) x → Stopped (suc k) q x
   stopped_later k q x y u at later =
       record {
         by_6 = later.by_6;
@@ -115,26 +114,28 @@ module _ (R : Rules) (h : List ℕ) (turn : ℕ → ℕ → Walked) where
   from_stopped (suc k) q t x is = go (made q) refl (from_stopped k)
     where
       go : (w : Walked) → made q ≡ w → ((q t : ℕ) (x : Refusal) → onward R h turn k q t ≡ Refused x → Stopped k q x) → Stopped (suc k) q x
-      go Broken at rest =
+      go (Err b) at rest =
           let is_x = sym (made_broken R h turn k q t at) ∙ is in
           record { by_6 = cc; part = q; from = omega arith; to = omega arith; broken = at; before = λ p a b. absurd (omega arith) }
-      go (Ran y u) at rest = stopped_later k q x y u at (rest (suc q) (t + u) x (sym (made_on R h turn k q t y u at) ∙ is))
+      go (Ok y) at rest =
+          stopped_later k q x y.found y.tests at (rest (suc q) (t + y.tests) x (sym (made_on R h turn k q t y.found y.tests at) ∙ is))
 
   search_stopped : (b : ℕ) (x : Refusal) → lookup_from R h turn b 0 (rules_in R) 0 ≡ Refused x → Stopped b 0 x
   unfolding candidate
   search_stopped b x is = from_stopped b 0 0 x is
 
   -- the other way round: a turn that is broken refuses the search
-  from_refused : (k q t p : ℕ) → q ≤ p → p < q + k → made p ≡ Broken → onward R h turn k q t ≡ Refused (refused BrokenTable)
+  from_refused : (k q t p : ℕ) → q ≤ p → p < q + k → made p ≡ broken_walk → onward R h turn k q t ≡ Refused (refused BrokenTable)
   from_refused zero q t p a b is = absurd (omega arith)
   from_refused (suc k) q t p a b is = go (made q) refl (from_refused k)
     where
-      go : (w : Walked) → made q ≡ w → ((q t p : ℕ) → q ≤ p → p < q + k → made p ≡ Broken → onward R h turn k q t ≡ Refused (refused BrokenTable))
+      go : (w : Walked) → made q ≡ w → ((q t p : ℕ) → q ≤ p → p < q + k → made p ≡ broken_walk → onward R h turn k q t ≡ Refused (refused BrokenTable))
           → onward R h turn (suc k) q t ≡ Refused (refused BrokenTable)
-      go Broken at rest = made_broken R h turn k q t at
-      go (Ran x u) at rest = made_on R h turn k q t x u at ∙ rest (suc q) (t + u) p (broken_later p q x u at is a) (omega arith) is
+      go (Err b) at rest = made_broken R h turn k q t at
+      go (Ok x) at rest =
+          made_on R h turn k q t x.found x.tests at ∙ rest (suc q) (t + x.tests) p (broken_later p q x.found x.tests at is a) (omega arith) is
 
-  search_refused : (b p : ℕ) → p < b → made p ≡ Broken → lookup_from R h turn b 0 (rules_in R) 0 ≡ Refused (refused BrokenTable)
+  search_refused : (b p : ℕ) → p < b → made p ≡ broken_walk → lookup_from R h turn b 0 (rules_in R) 0 ≡ Refused (refused BrokenTable)
   unfolding candidate
   search_refused b p lt is = from_refused b 0 0 p (omega arith) (omega arith) is
 
@@ -161,13 +162,13 @@ pub record FirstBroken (R : Rules) (v : View) (h : List ℕ) : Type 0 where
 
 -- a turn is broken exactly where the partition is not skipped and is broken
 turn_broken_iff : (R : Rules) (v : View) (h : List ℕ) (q : ℕ)
-    → (turn_made (rules_in R) (turn_of R v h) q ≡ Broken) ↔ ((is_skipped R v h q ≡ false) × BrokenPart R v h q)
+    → (turn_made (rules_in R) (turn_of R v h) q ≡ broken_walk) ↔ ((is_skipped R v h q ≡ false) × BrokenPart R v h q)
 turn_broken_iff R v h q = (to (is_skipped R v h q) refl, λ b. turn_visits R v h best q b.0 ∙ (visit_broken_iff R v h q).1 b.1)
   where
     best : ℕ
     best = candidate (rules_in R) (turn_of R v h) q
 
-    to : (s : Bool) → is_skipped R v h q ≡ s → turn_of R v h best q ≡ Broken → (is_skipped R v h q ≡ false) × BrokenPart R v h q
+    to : (s : Bool) → is_skipped R v h q ≡ s → turn_of R v h best q ≡ broken_walk → (is_skipped R v h q ≡ false) × BrokenPart R v h q
     to true e is = let miss = sym (turn_skipped R v h best q e) ∙ is in never (cc)
     to false e is = (e, (visit_broken_iff R v h q).0 (sym (turn_visits R v h best q e) ∙ is))
 

@@ -11,6 +11,7 @@ use mathlib.Core.Path.{◌≡◌, refl, ap, ◌∙◌}
 use native.Mathlib.Omega.{arith}
 use lib.Dec.{ltb}
 use borrow.Author.Tests.{ltb-true, ltb-false}
+use Rattle.std.specs.Prelude.{Option, Some, None, Ok, Err}
 use Rattle.ranges.specs.Numbers.{pick}
 use Rattle.ranges.specs.Refusals.{stands}
 use Rattle.ranges.proofs.Numbers.{never}
@@ -18,12 +19,10 @@ use Rattle.lists.specs.Rules.{Rules, rules_in}
 use Rattle.lists.specs.Edges.{edge_of}
 use Rattle.tables.specs.Layout.{View}
 use Rattle.tables.specs.Opening.{view_of, open_fault}
+use Rattle.lookup.specs.Walk.{Walked, ran}
 use Rattle.lookup.specs.Lookup.{skips, turn_of, visit_of, better, after_visit, lookup_from, search_of, lookup_of}
-use Rattle.lookup.specs.declared.walk.Found.{Found}
-use Rattle.lookup.specs.declared.walk.Found.TheVariants.{Hit, Miss}
-use Rattle.lookup.specs.declared.walk.Walked.{Walked}
-use Rattle.lookup.specs.declared.walk.Walked.TheVariants.{Ran, Broken}
 use Rattle.lookup.specs.declared.lookup.Looked.TheVariants.{Rule, Nothing, Refused}
+use Rattle.lookup.proofs.Arrivals.{ran_one}
 use Rattle.lookup.proofs.Named.{Matches, walk_fits}
 use Rattle.lookup.proofs.Visits.{visited_walks}
 
@@ -33,10 +32,10 @@ pub record Returned (R : Rules) (h : List ℕ) (i : ℕ) (e : Bool) : Type 0 whe
   pub edge : e ≡ edge_of R h i
 
 -- ---- the smallest candidate so far, if there is one, matches
-pub sooner_fits : (R : Rules) (h : List ℕ) (best : ℕ) (x : Found) → (best < rules_in R → Matches R h best) → ((i : ℕ) → x ≡ Hit i → Matches R h i)
+pub sooner_fits : (R : Rules) (h : List ℕ) (best : ℕ) (x : Option ℕ) → (best < rules_in R → Matches R h best) → ((i : ℕ) → x ≡ Some i → Matches R h i)
     → better best x < rules_in R → Matches R h (better best x)
-sooner_fits R h best Miss kept new lt = kept lt
-sooner_fits R h best (Hit i) kept new lt = go (ltb i best) refl
+sooner_fits R h best None kept new lt = kept lt
+sooner_fits R h best (Some i) kept new lt = go (ltb i best) refl
   where
     go : (t : Bool) → ltb i best ≡ t → Matches R h (min best i)
     go true e =
@@ -50,20 +49,20 @@ sooner_fits R h best (Hit i) kept new lt = go (ltb i best) refl
 
 -- ---- a partition
 module _ (R : Rules) (v : View) (h : List ℕ) where
-  pub visit_fits : (q i u : ℕ) → visit_of R v h q ≡ Ran (Hit i) u → Matches R h i
-  visit_fits q i u is = walk_fits R v h _ _ _ _ _ i u (visited_walks R v h q (Hit i) u is).walks
+  pub visit_fits : (q i u : ℕ) → visit_of R v h q ≡ ran (Some i) u → Matches R h i
+  visit_fits q i u is = walk_fits R v h _ _ _ _ _ i u (visited_walks R v h q (Some i) u is).walks
 
   -- so does what a turn names
-  pub turn_fits : (best q i u : ℕ) → turn_of R v h best q ≡ Ran (Hit i) u → Matches R h i
+  pub turn_fits : (best q i u : ℕ) → turn_of R v h best q ≡ ran (Some i) u → Matches R h i
   unfolding turn_of
   turn_fits best q i u = go (skips (rules_in R) v.least best q)
     where
-      go : (s : Bool) → pick s (Ran Miss 0) (visit_of R v h q) ≡ Ran (Hit i) u → Matches R h i
-      go true is = never (cc)
+      go : (s : Bool) → pick s (ran None 0) (visit_of R v h q) ≡ ran (Some i) u → Matches R h i
+      go true is = never (cc (ran_one is).0)
       go false is = visit_fits q i u is
 
 -- all partitions in order, where each turn names only what matches
-module _ (R : Rules) (h : List ℕ) (turn : ℕ → ℕ → Walked) (names : (best q i u : ℕ) → turn best q ≡ Ran (Hit i) u → Matches R h i) where
+module _ (R : Rules) (h : List ℕ) (turn : ℕ → ℕ → Walked) (names : (best q i u : ℕ) → turn best q ≡ ran (Some i) u → Matches R h i) where
   from_fits : (k q best t : ℕ) → (best < rules_in R → Matches R h best) → (i u : ℕ) (e : Bool) → lookup_from R h turn k q best t ≡ Rule i u e → Returned R h i e
   unfolding lookup_from
   from_fits zero q best t kept i u e = go (ltb best (rules_in R)) refl
@@ -79,9 +78,10 @@ module _ (R : Rules) (h : List ℕ) (turn : ℕ → ℕ → Walked) (names : (be
       go : (w : Walked) → turn best q ≡ w
           → ((q best t : ℕ) → (best < rules_in R → Matches R h best) → (i u : ℕ) (e : Bool) → lookup_from R h turn k q best t ≡ Rule i u e → Returned R h i e)
           → after_visit w (λ x u. lookup_from R h turn k (suc q) (better best x) (t + u)) ≡ Rule i u e → Returned R h i e
-      go Broken at rest is = never (cc)
-      go (Ran x w) at rest is =
-          rest (suc q) (better best x) (t + w) (sooner_fits R h best x kept (λ j is_x. names best q j w (at ∙ ap (λ y. Ran y w) is_x))) i u e is
+      go (Err b) at rest is = never (cc)
+      go (Ok x) at rest is =
+          rest (suc q) (better best x.found) (t + x.tests)
+          (sooner_fits R h best x.found kept (λ j is_x. names best q j x.tests (at ∙ ap (λ y. ran y x.tests) is_x))) i u e is
 
 -- ---- a lookup
 pub rule_returned : (R : Rules) (T h : List ℕ) (i u : ℕ) (e : Bool) → lookup_of R T h ≡ Rule i u e → Returned R h i e

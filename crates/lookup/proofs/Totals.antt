@@ -18,6 +18,7 @@ use native.Mathlib.Omega.{arith}
 use lib.Dec.{ltb, eqb}
 use lib.Pow.{pow_pos}
 use borrow.Author.Tests.{le-ltb, ltb-true, ltb-false, eqb-true}
+use Rattle.std.specs.Prelude.{None, Ok, Err}
 use Rattle.ranges.specs.Numbers.{pick}
 use Rattle.ranges.proofs.Numbers.{never}
 use Rattle.lists.specs.Rules.{Rules, fields_of, rules_in}
@@ -25,11 +26,9 @@ use Rattle.lists.specs.Edges.{edge_of}
 use Rattle.tables.specs.Layout.{View}
 use Rattle.tables.specs.Opening.{view_of, open_fault}
 use Rattle.tables.proofs.Opened.{opened}
+use Rattle.lookup.specs.Walk.{Walked, ran}
 use Rattle.lookup.specs.Lookup.{skips, turn_of, visit_of, answer_of, lookup_from, search_of, lookup_of, tests_in}
 use Rattle.lookup.specs.Bounds.{PowerWithin, tests_of, candidate, turn_made, is_skipped, sum_from, refuses}
-use Rattle.lookup.specs.declared.walk.Found.TheVariants.{Miss}
-use Rattle.lookup.specs.declared.walk.Walked.{Walked}
-use Rattle.lookup.specs.declared.walk.Walked.TheVariants.{Ran, Broken}
 use Rattle.lookup.specs.declared.lookup.Looked.{Looked}
 use Rattle.lookup.specs.declared.lookup.Looked.TheVariants.{Rule, Nothing, Refused}
 use Rattle.lookup.proofs.Counts.{walk_few}
@@ -56,10 +55,11 @@ pub visit_tests : (R : Rules) (v : View) (h : List ℕ) (q k : ℕ) → PowerWit
 visit_tests R v h q k power = go (visit_of R v h q) refl
   where
     go : (w : Walked) → visit_of R v h q ≡ w → tests_of w ≤ fields_of R + k
-    go Broken is = omega arith
-    go (Ran x u) is =
-        let w = visited_walks R v h q x u is in
-        let few = walk_few R v h (suc (rules_in R + fields_of R)) (v.start q) (v.start (suc q)) 0 0 (suc k) w.some (omega arith) power.largest x u w.walks in
+    go (Err b) is = omega arith
+    go (Ok x) is =
+        let w = visited_walks R v h q x.found x.tests is in
+        let few =
+        walk_few R v h (suc (rules_in R + fields_of R)) (v.start q) (v.start (suc q)) 0 0 (suc k) w.some (omega arith) power.largest x.found x.tests w.walks in
         omega (arith, few)
 
 -- ---- sums
@@ -114,10 +114,10 @@ module _ (R : Rules) (h : List ℕ) (turn : ℕ → ℕ → Walked) where
     where
       go : (w : Walked) → turn_made (rules_in R) turn q ≡ w → ((q t : ℕ) → refuses (onward R h turn k q t) ≡ false → tests_in (onward R h turn k q t) ≡ t + sum_from k q added)
           → tests_in (onward R h turn (suc k) q t) ≡ t + (tests_of w + sum_from k (suc q) added)
-      go Broken is rest = let no = sym (ap refuses (made_broken R h turn k q t is)) ∙ fine in never (cc)
-      go (Ran x u) is rest =
-          let on = made_on R h turn k q t x u is in
-          omega (arith, ap tests_in on, rest (suc q) (t + u) (sym (ap refuses on) ∙ fine))
+      go (Err b) is rest = let no = sym (ap refuses (made_broken R h turn k q t is)) ∙ fine in never (cc)
+      go (Ok x) is rest =
+          let onto = made_on R h turn k q t x.found x.tests is in
+          omega (arith, ap tests_in onto, rest (suc q) (t + x.tests) (sym (ap refuses onto) ∙ fine))
 
   pub search_sum : (b : ℕ) → refuses (lookup_from R h turn b 0 (rules_in R) 0) ≡ false → tests_in (lookup_from R h turn b 0 (rules_in R) 0) ≡ sum_from b 0 added
   unfolding candidate
@@ -129,7 +129,7 @@ pub turn_tests : (R : Rules) (v : View) (h : List ℕ) (best q : ℕ)
 unfolding turn_of
 turn_tests R v h best q = go (skips (rules_in R) v.least best q)
   where
-    go : (s : Bool) → tests_of (pick s (Ran Miss 0) (visit_of R v h q)) ≡ pick s 0 (tests_of (visit_of R v h q))
+    go : (s : Bool) → tests_of (pick s (ran None 0) (visit_of R v h q)) ≡ pick s 0 (tests_of (visit_of R v h q))
     go true = refl
     go false = refl
 

@@ -11,19 +11,15 @@ use mathlib.Core.Path.{◌≡◌, refl, sym, ◌∙◌}
 use lib.ListN.{get_or}
 use lib.Dec.{leb}
 use borrow.Author.Tests.{leb-false}
+use Rattle.std.specs.Prelude.{None, Ok, Err}
 use Rattle.ranges.specs.Numbers.{pick}
 use Rattle.lists.specs.Rules.{Rules, fields_of, rules_in}
 use Rattle.lists.proofs.Fitting.{fits_same}
 use Rattle.lists.proofs.Edges.{edge_same}
 use Rattle.tables.specs.Layout.{View}
 use Rattle.tables.specs.Opening.{view_of}
-use Rattle.lookup.specs.Walk.{step_at, step_of, after_step, arrived_of, walk_from}
+use Rattle.lookup.specs.Walk.{Walked, Stepped, ran, step_at, step_of, after_step, arrived_of, walk_from}
 use Rattle.lookup.specs.Lookup.{turn_of, visit_of, better, after_visit, lookup_from, lookup_of}
-use Rattle.lookup.specs.declared.walk.Found.TheVariants.{Miss}
-use Rattle.lookup.specs.declared.walk.Walked.{Walked}
-use Rattle.lookup.specs.declared.walk.Walked.TheVariants.{Ran, Broken}
-use Rattle.lookup.specs.declared.walk.Step.{Step}
-use Rattle.lookup.specs.declared.walk.Step.TheVariants.{On, Broken as StepBroken}
 
 -- two headers agree on the first d numbers
 pub record Agree (d : ℕ) (h h' : List ℕ) : Type 0 where
@@ -43,13 +39,13 @@ module _ (R : Rules) (v : View) (h h' : List ℕ) (agree : Agree (fields_of R) h
   walk_same zero s e f t = refl
   walk_same (suc k) s e f t = go (leb (fields_of R) f) refl (step_of R v h s e f) refl (walk_same k)
     where
-      go : (p : Bool) → leb (fields_of R) f ≡ p → (x : Step) → step_of R v h s e f ≡ x
+      go : (p : Bool) → leb (fields_of R) f ≡ p → (x : Stepped) → step_of R v h s e f ≡ x
           → ((s e f t : ℕ) → walk_from R v h k s e f t ≡ walk_from R v h' k s e f t)
-          → pick (leb e s) (Ran Miss t) (pick p (arrived_of R v h s e t) (after_step x (λ s' e' f'. walk_from R v h k s' e' f' (t + 1))))
-          ≡ pick (leb e s) (Ran Miss t) (pick p (arrived_of R v h' s e t) (after_step (step_of R v h' s e f) (λ s' e' f'. walk_from R v h' k s' e' f' (t + 1))))
+          → pick (leb e s) (ran None t) (pick p (arrived_of R v h s e t) (after_step x (λ s' e' f'. walk_from R v h k s' e' f' (t + 1))))
+          ≡ pick (leb e s) (ran None t) (pick p (arrived_of R v h' s e t) (after_step (step_of R v h' s e f) (λ s' e' f'. walk_from R v h' k s' e' f' (t + 1))))
       go true is_p x is_x rest = rw (arrived_same s e t)
-      go false is_p StepBroken is_x rest = rw (sym (step_same s e f (leb-false (fields_of R) f is_p)) ∙ is_x)
-      go false is_p (On s' e' f') is_x rest = rw (sym (step_same s e f (leb-false (fields_of R) f is_p)) ∙ is_x, rest s' e' f' (t + 1))
+      go false is_p (Err b) is_x rest = rw (sym (step_same s e f (leb-false (fields_of R) f is_p)) ∙ is_x)
+      go false is_p (Ok y) is_x rest = rw (sym (step_same s e f (leb-false (fields_of R) f is_p)) ∙ is_x, rest y.s y.e y.f (t + 1))
 
   visit_same : (q : ℕ) → visit_of R v h q ≡ visit_of R v h' q
   unfolding visit_of
@@ -69,8 +65,8 @@ module _ (R : Rules) (h h' : List ℕ) (agree : Agree (fields_of R) h h') (turn 
       go : (w : Walked) → turn' best q ≡ w → ((q best t : ℕ) → lookup_from R h turn k q best t ≡ lookup_from R h' turn' k q best t)
           → after_visit w (λ x u. lookup_from R h turn k (suc q) (better best x) (t + u))
           ≡ after_visit (turn' best q) (λ x u. lookup_from R h' turn' k (suc q) (better best x) (t + u))
-      go Broken is rest = rw is
-      go (Ran x u) is rest = rw (is, rest (suc q) (better best x) (t + u))
+      go (Err b) is rest = rw is
+      go (Ok x) is rest = rw (is, rest (suc q) (better best x.found) (t + x.tests))
 
 pub lookup_same : (R : Rules) (T h h' : List ℕ) → Agree (fields_of R) h h' → lookup_of R T h ≡ lookup_of R T h'
 unfolding lookup_of

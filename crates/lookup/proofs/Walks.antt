@@ -12,18 +12,14 @@ use mathlib.Core.Path.{◌≡◌, refl, sym, ap, ◌∙◌, subst}
 use native.Mathlib.Omega.{arith}
 use lib.Dec.{leb}
 use borrow.Author.Tests.{le-leb, lt-leb, leb-true, leb-false}
+use Rattle.std.specs.Prelude.{None, Ok, Err}
 use Rattle.lists.specs.Rules.{Rules, fields_of}
 use Rattle.tables.specs.Layout.{View}
-use Rattle.lookup.specs.Walk.{step_of, arrived_of, walk_from}
+use Rattle.lookup.specs.Walk.{Walked, Stepped, ran, broken_walk, on, broken_step, step_of, arrived_of, walk_from}
 use Rattle.lookup.specs.Packed.{packed}
-use Rattle.lookup.specs.declared.walk.Found.TheVariants.{Miss}
-use Rattle.lookup.specs.declared.walk.Walked.{Walked}
-use Rattle.lookup.specs.declared.walk.Walked.TheVariants.{Ran, Broken}
-use Rattle.lookup.specs.declared.walk.Step.{Step}
-use Rattle.lookup.specs.declared.walk.Step.TheVariants.{On, Broken as StepBroken}
 
 module _ (R : Rules) (v : View) (h : List ℕ) (k s e f t : ℕ) where
-  pub walk_empty : e ≤ s → walk_from R v h (suc k) s e f t ≡ Ran Miss t
+  pub walk_empty : e ≤ s → walk_from R v h (suc k) s e f t ≡ ran None t
   unfolding walk_from
   walk_empty none = rw (le-leb e s none)
 
@@ -32,11 +28,11 @@ module _ (R : Rules) (v : View) (h : List ℕ) (k s e f t : ℕ) where
   walk_arrives some at-end = rw (lt-leb e s some, le-leb (fields_of R) f at-end)
 
   module _ (some : s < e) (in_row : f < fields_of R) where
-    pub walk_breaks : step_of R v h s e f ≡ StepBroken → walk_from R v h (suc k) s e f t ≡ Broken
+    pub walk_breaks : step_of R v h s e f ≡ broken_step → walk_from R v h (suc k) s e f t ≡ broken_walk
     unfolding walk_from
     walk_breaks is = rw (lt-leb e s some, lt-leb (fields_of R) f in_row, is)
 
-    pub walk_on : (s' e' f' : ℕ) → step_of R v h s e f ≡ On s' e' f' → walk_from R v h (suc k) s e f t ≡ walk_from R v h k s' e' f' (t + 1)
+    pub walk_on : (s' e' f' : ℕ) → step_of R v h s e f ≡ on s' e' f' → walk_from R v h (suc k) s e f t ≡ walk_from R v h k s' e' f' (t + 1)
     unfolding walk_from
     walk_on s' e' f' is = rw (lt-leb e s some, lt-leb (fields_of R) f in_row, is)
 
@@ -44,17 +40,17 @@ module _ (R : Rules) (v : View) (h : List ℕ) (k s e f t : ℕ) where
 pub data Turn (R : Rules) (v : View) (h : List ℕ) (s e f : ℕ) : Type 0 where
   empties : e ≤ s → Turn R v h s e f
   ends : s < e → fields_of R ≤ f → Turn R v h s e f
-  breaks : s < e → f < fields_of R → step_of R v h s e f ≡ StepBroken → Turn R v h s e f
-  goes_on : s < e → f < fields_of R → (s' e' f' : ℕ) → step_of R v h s e f ≡ On s' e' f' → Turn R v h s e f
+  breaks : s < e → f < fields_of R → step_of R v h s e f ≡ broken_step → Turn R v h s e f
+  goes_on : s < e → f < fields_of R → (s' e' f' : ℕ) → step_of R v h s e f ≡ on s' e' f' → Turn R v h s e f
 
 pub turn : (R : Rules) (v : View) (h : List ℕ) (s e f : ℕ) → Turn R v h s e f
 turn R v h s e f = go (leb e s) refl (leb (fields_of R) f) refl (step_of R v h s e f) refl
   where
-    go : (p : Bool) → leb e s ≡ p → (q : Bool) → leb (fields_of R) f ≡ q → (x : Step) → step_of R v h s e f ≡ x → Turn R v h s e f
+    go : (p : Bool) → leb e s ≡ p → (q : Bool) → leb (fields_of R) f ≡ q → (x : Stepped) → step_of R v h s e f ≡ x → Turn R v h s e f
     go true is_p q is_q x is_x = empties (leb-true e s is_p)
     go false is_p true is_q x is_x = ends (leb-false e s is_p) (leb-true (fields_of R) f is_q)
-    go false is_p false is_q StepBroken is_x = breaks (leb-false e s is_p) (leb-false (fields_of R) f is_q) is_x
-    go false is_p false is_q (On s' e' f') is_x = goes_on (leb-false e s is_p) (leb-false (fields_of R) f is_q) s' e' f' is_x
+    go false is_p false is_q (Err b) is_x = breaks (leb-false e s is_p) (leb-false (fields_of R) f is_q) is_x
+    go false is_p false is_q (Ok y) is_x = goes_on (leb-false e s is_p) (leb-false (fields_of R) f is_q) y.s y.e y.f is_x
 
 -- the same for every number of tests that is enough, as the code's contract has it: more than m, group size plus remaining fields
 module _ (R : Rules) (v : View) (h : List ℕ) (s e f t m c : ℕ) where
@@ -62,7 +58,7 @@ module _ (R : Rules) (v : View) (h : List ℕ) (s e f t m c : ℕ) where
   abbrev Answers : Type 0
   Answers = (k : ℕ) → m < k → c ≡ packed (walk_from R v h k s e f t)
 
-  pub every_empty : e ≤ s → c ≡ packed (Ran Miss t) → Answers
+  pub every_empty : e ≤ s → c ≡ packed (ran None t) → Answers
   every_empty none is zero lt = absurd (omega arith)
   every_empty none is (suc k) lt = is ∙ ap packed (sym (walk_empty R v h k s e f t none))
 
@@ -73,11 +69,11 @@ module _ (R : Rules) (v : View) (h : List ℕ) (s e f t m c : ℕ) where
 
   module _ (some : s < e) (in_row : f < fields_of R) where
     -- x is what a callee told of the step
-    pub every_breaks : (x : Step) → x ≡ step_of R v h s e f → x ≡ StepBroken → c ≡ packed Broken → Answers
+    pub every_breaks : (x : Stepped) → x ≡ step_of R v h s e f → x ≡ broken_step → c ≡ packed broken_walk → Answers
     every_breaks x is_x step is zero lt = absurd (omega arith)
     every_breaks x is_x step is (suc k) lt = is ∙ ap packed (sym (walk_breaks R v h k s e f t some in_row (sym is_x ∙ step)))
 
-    pub every_on : (x : Step) (s' e' f' m' : ℕ) → x ≡ step_of R v h s e f → x ≡ On s' e' f' → m' < m
+    pub every_on : (x : Stepped) (s' e' f' m' : ℕ) → x ≡ step_of R v h s e f → x ≡ on s' e' f' → m' < m
         → ((k : ℕ) → m' < k → c ≡ packed (walk_from R v h k s' e' f' (t + 1))) → Answers
     every_on x s' e' f' m' is_x step falls rest zero lt = absurd (omega arith)
     every_on x s' e' f' m' is_x step falls rest (suc k) lt =
@@ -86,10 +82,10 @@ module _ (R : Rules) (v : View) (h : List ℕ) (s e f t m c : ℕ) where
 -- ---- what holds of every walk
 -- P says something of a walk's places s to before e, field f and tests t, and of what it answers
 module _ (R : Rules) (v : View) (h : List ℕ) (P : ℕ → ℕ → ℕ → ℕ → Walked → Type 0)
-    (broken : (s e f t : ℕ) → P s e f t Broken)
-    (empty : (s e f t : ℕ) → e ≤ s → P s e f t (Ran Miss t))
+    (broken : (s e f t : ℕ) → P s e f t broken_walk)
+    (empty : (s e f t : ℕ) → e ≤ s → P s e f t (ran None t))
     (arrives : (s e f t : ℕ) → s < e → fields_of R ≤ f → P s e f t (arrived_of R v h s e t))
-    (goes : (s e f t : ℕ) → s < e → f < fields_of R → (s' e' f' : ℕ) → step_of R v h s e f ≡ On s' e' f' → (w : Walked) → P s' e' f' (t + 1) w → P s e f t w)
+    (goes : (s e f t : ℕ) → s < e → f < fields_of R → (s' e' f' : ℕ) → step_of R v h s e f ≡ on s' e' f' → (w : Walked) → P s' e' f' (t + 1) w → P s e f t w)
   where
     pub walk_holds : (k s e f t : ℕ) → P s e f t (walk_from R v h k s e f t)
     unfolding walk_from

@@ -1,15 +1,12 @@
 -- What the bound on tests speaks of: the largest power of two within a number, the tests of a visit, which partitions are skipped, a sum,
 -- and the list and the header that reach the bound.
 -- Assumes nothing: these are definitions.
-use Rattle.std.specs.Prelude.{ℕ, zero, suc, ◌+◌, ◌*◌, ◌/◌, ◌%◌, ◌^◌, ◌≤◌, ◌<◌, Bool, true, false, List}
+use Rattle.std.specs.Prelude.{ℕ, zero, suc, ◌+◌, ◌*◌, ◌/◌, ◌%◌, ◌^◌, ◌≤◌, ◌<◌, Bool, true, false, List, Option, None, Ok, Err}
 use Rattle.ranges.specs.Numbers.{tab}
 use Rattle.lists.specs.Rules.{Rules, listed, rules_in}
 use Rattle.tables.specs.Layout.{View}
+use Rattle.lookup.specs.Walk.{Walked}
 use Rattle.lookup.specs.Lookup.{skips, turn_of, better}
-use Rattle.lookup.specs.declared.walk.Found.{Found}
-use Rattle.lookup.specs.declared.walk.Found.TheVariants.{Miss}
-use Rattle.lookup.specs.declared.walk.Walked.{Walked}
-use Rattle.lookup.specs.declared.walk.Walked.TheVariants.{Ran, Broken}
 use Rattle.lookup.specs.declared.lookup.Looked.{Looked}
 use Rattle.lookup.specs.declared.lookup.Looked.TheVariants.{Rule, Nothing, Refused}
 
@@ -21,13 +18,13 @@ pub record PowerWithin (m k : ℕ) : Type 0 where
 
 -- the tests of a walk
 abbrev pub tests_of : Walked → ℕ
-tests_of (Ran x u) = u
-tests_of Broken = 0
+tests_of (Ok x) = x.tests
+tests_of (Err x) = 0
 
 -- what a walk found: a broken one nothing
-abbrev pub found_by : Walked → Found
-found_by (Ran x u) = x
-found_by Broken = Miss
+abbrev pub found_by : Walked → Option ℕ
+found_by (Ok x) = x.found
+found_by (Err x) = None
 
 -- the smallest candidate of the partitions before q, each by its turn; n where there is none
 unfoldable pub candidate : ℕ → (ℕ → ℕ → Walked) → ℕ → ℕ

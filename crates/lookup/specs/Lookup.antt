@@ -1,18 +1,14 @@
 -- 01, The walk and Refusal numbers: a partition visited, all of them in order, and what a lookup answers; 02, W2: whether the rule that wins
 -- has a field at an end of its range; 02, W5: a partition whose stored number is greater than the candidate is skipped.
 -- Assumes nothing: these are definitions.
-use Rattle.std.specs.Prelude.{ℕ, zero, suc, ◌+◌, min, Bool, false, List, [], ◌∷◌, ltb}
+use Rattle.std.specs.Prelude.{ℕ, zero, suc, ◌+◌, min, Bool, false, List, [], ◌∷◌, Option, Some, None, Ok, Err, ltb}
 use Rattle.ranges.specs.Numbers.{pick, bit, ◌and◌}
 use Rattle.ranges.specs.Refusals.{none, refused, stands, Said, said_of, BrokenTable}
 use Rattle.lists.specs.Rules.{Rules, fields_of, rules_in}
 use Rattle.lists.specs.Edges.{edge_of}
 use Rattle.tables.specs.Layout.{View}
 use Rattle.tables.specs.Opening.{part_stands, view_of, open_fault}
-use Rattle.lookup.specs.Walk.{walk_from}
-use Rattle.lookup.specs.declared.walk.Found.{Found}
-use Rattle.lookup.specs.declared.walk.Found.TheVariants.{Hit, Miss}
-use Rattle.lookup.specs.declared.walk.Walked.{Walked}
-use Rattle.lookup.specs.declared.walk.Walked.TheVariants.{Ran, Broken}
+use Rattle.lookup.specs.Walk.{Walked, ran, broken_walk, walk_from}
 use Rattle.lookup.specs.declared.lookup.Looked.{Looked}
 use Rattle.lookup.specs.declared.lookup.Looked.TheVariants.{Rule, Nothing, Refused}
 
@@ -22,7 +18,7 @@ unfoldable pub visit_of : Rules → View → List ℕ → ℕ → Walked
 visit_of R v h q =
     pick (part_stands (rules_in R) v.start q)
     (walk_from R v h (suc (rules_in R + fields_of R)) (v.start q) (v.start (suc q)) 0 0)
-    Broken
+    broken_walk
 
 -- partition q is skipped: there is a candidate, and the number that is stored for q is greater
 abbrev pub skips : ℕ → (ℕ → ℕ) → ℕ → ℕ → Bool
@@ -30,17 +26,23 @@ skips n least best q = ltb best n and ltb best (least q)
 
 -- the turn of partition q, with the smallest candidate so far: where it is skipped a miss without a test, else it is visited
 unfoldable pub turn_of : Rules → View → List ℕ → ℕ → ℕ → Walked
-turn_of R v h best q = pick (skips (rules_in R) v.least best q) (Ran Miss 0) (visit_of R v h q)
+turn_of R v h best q = pick (skips (rules_in R) v.least best q) (ran None 0) (visit_of R v h q)
 
 -- the smaller candidate, where n stands for none
-abbrev pub better : ℕ → Found → ℕ
-better best Miss = best
-better best (Hit i) = min best i
+abbrev pub better : ℕ → Option ℕ → ℕ
+better best None = best
+better best (Some i) = min best i
+
+-- the same of two candidates, where either may be none
+abbrev pub sooner : Option ℕ → Option ℕ → Option ℕ
+sooner None found = found
+sooner (Some i) None = Some i
+sooner (Some i) (Some j) = Some (min i j)
 
 -- what follows a visit: a broken partition refuses the whole call
-abbrev pub after_visit : Walked → (Found → ℕ → Looked) → Looked
-after_visit (Ran x u) next = next x u
-after_visit Broken next = Refused (refused BrokenTable)
+abbrev pub after_visit : Walked → (Option ℕ → ℕ → Looked) → Looked
+after_visit (Ok x) next = next x.found x.tests
+after_visit (Err x) next = Refused (refused BrokenTable)
 
 -- the smallest candidate, with whether it has a field at an end; or none; with t tests made
 abbrev pub answer_of : Rules → List ℕ → ℕ → ℕ → Looked

@@ -1,11 +1,11 @@
 // The lookup of a header in a table.
-ghost use Rattle.std.specs.Prelude.{◌≡◌, ◌≤◌, ◌<◌, length};
+ghost use Rattle.std.specs.Prelude.{◌≡◌, ◌≤◌, ◌<◌, ◌↔◌, length, IsTrue, IsSomeAnd};
 ghost use Rattle.lists.specs.Rules.{listed};
 ghost use Rattle.tables.specs.Layout.{view, start_at, least_at, start_in, least_in};
 ghost use Rattle.lookup.specs.Lent.{Ready};
-ghost use Rattle.lookup.specs.Lookup.{skips, turn_of, visit_of, lookup_from, lookup_of};
+ghost use Rattle.lookup.specs.Lookup.{sooner, turn_of, visit_of, lookup_from, lookup_of};
 
-use crate::walk::{Found, Walked, unpack, walk};
+use crate::walk::{Broken, Ran, unpack, walk};
 use lists::edge::rule_edge;
 use lists::shape::{Shape, rules_in};
 use ranges::refusal::{BROKEN_TABLE, Refusal, refuse};
@@ -47,30 +47,44 @@ fn least_in(table: &[u16], n: u16, q: u16) -> u16
 
 // Visits partition q: walks through its places, or says that the table is broken where it has none or ends past the n
 // places.
-fn visit(shape: Shape, n: u16, list: &[u32], table: &[u16], header: &[u32; 8], q: u16) -> Walked
+fn visit(
+    shape: Shape,
+    n: u16,
+    list: &[u32],
+    table: &[u16],
+    header: &[u32; 8],
+    q: u16,
+) -> Result<Ran, Broken>
     requires { Ready (listed shape list.now) n table.now × (q < n) }
     ensures { result ≡ visit_of (listed shape list.now) (view n shape.d table.now) header.now q }
 {
     let s = start_in(table, n, q);
     let e = start_in(table, n, q + 1);
     if e <= s {
-        return Walked::Broken;
+        return Err(Broken);
     }
     if n < e {
-        return Walked::Broken;
+        return Err(Broken);
     }
     unpack(walk(shape, n, &list, &table, header, s, e, 0, 0))
 }
 
-// Says whether partition q is skipped: there is a candidate, one below n, and the number that is stored for q is greater.
-fn is_skipped(table: &[u16], n: u16, best: u16, q: u16) -> bool
+// Says whether partition q is skipped: there is a candidate, and the number that is stored for q is greater.
+fn is_skipped(table: &[u16], n: u16, best: Option<u16>, q: u16) -> bool
     requires { least_at n q < length table.now }
-    ensures { result ≡ skips n (least_in n table.now) best q }
+    ensures { IsTrue result ↔ IsSomeAnd best (λ i. i < least_in n table.now q) }
 {
-    if n <= best {
-        return false;
+    best.is_some_and(|i| i < least_in(table, n, q))
+}
+
+// Gives the smaller of two candidates, where there are two, or the one that there is.
+fn smaller(best: Option<u16>, found: Option<u16>) -> Option<u16>
+    ensures { result ≡ sooner best found }
+{
+    match (best, found) {
+        (Some(i), Some(j)) => Some(i.min(j)),
+        _ => best.or(found),
     }
-    best < least_in(table, n, q)
 }
 
 // Comes to the partitions 0 to b - 1 in order, skips those that can't have a smaller candidate by their stored number, and
@@ -81,36 +95,27 @@ fn visit_all(shape: Shape, n: u16, b: u16, list: &[u32], table: &[u16], header: 
     requires b_le_n { b ≤ n }
     ensures { result ≡ lookup_from (listed shape list.now) header.now (turn_of (listed shape list.now) (view n shape.d table.now) header.now) b 0 n 0 }
 {
-    let mut q: u16 = 0;
-    let mut best = n;
+    let mut best: Option<u16> = None;
     let mut total: usize = 0;
-    while q < b {
+    for q in 0..b {
         if is_skipped(table, n, best, q) {
-            q += 1;
             continue;
         }
         let walked = visit(shape, n, list, table, header, q);
-        let Walked::Ran(found, tests) = walked else {
+        let Ok(Ran { found, tests }) = walked else {
             return Looked::Refused(refuse(BROKEN_TABLE));
         };
-        q += 1;
+        best = smaller(best, found);
         total += tests as usize;
-        let Found::Hit(rule) = found else {
-            continue;
-        };
-        if rule < best {
-            best = rule;
-        }
     }
-    if best < n {
-        let edge = rule_edge(shape, list, best, *header);
-        return Looked::Rule {
-            rule: best as usize,
-            tests: total,
-            edge,
-        };
+    let Some(rule) = best else {
+        return Looked::Nothing { tests: total };
+    };
+    Looked::Rule {
+        rule: rule as usize,
+        tests: total,
+        edge: rule_edge(shape, list, rule, *header),
     }
-    Looked::Nothing { tests: total }
 }
 
 // Looks a header up in a table: gives the smallest candidate of the partitions that are not skipped, with whether it has a

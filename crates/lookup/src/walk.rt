@@ -13,27 +13,24 @@ use lists::shape::{Shape, offset_of};
 use ranges::side::{Range, is_below, is_past};
 use tables::layout::{from_at, order_at, to_at};
 
-// What a walk finds in a partition.
+// What a walk answers: the number of the rule that it found in a partition, or none, with the tests made.
 #[derive(Clone, Copy)]
-pub enum Found {
-    // A rule, by its number.
-    Hit(u16),
-    Miss,
+pub struct Ran {
+    pub found: Option<u16>,
+    pub tests: u16,
 }
 
-// What a walk answers: what it found, with the tests made; or that the table is broken.
+// What one test leaves: places s to before e at field f.
 #[derive(Clone, Copy)]
-pub enum Walked {
-    Ran(Found, u16),
-    Broken,
+pub struct Step {
+    pub s: u16,
+    pub e: u16,
+    pub f: u16,
 }
 
-// What one test leaves: places s to before e at field f; or a broken table.
+// The table is broken.
 #[derive(Clone, Copy)]
-pub enum Step {
-    On { s: u16, e: u16, f: u16 },
-    Broken,
-}
+pub struct Broken;
 
 // Reads the rule number at place p. A walk reads so often that a test of each place, as the readers of `tables` make it, would
 // cost a lookup a fifth: so it has readers of its own, for places that are known to stand in the table.
@@ -96,7 +93,7 @@ fn one_step(
     s: u16,
     e: u16,
     f: u16,
-) -> Step
+) -> Result<Step, Broken>
     requires ready { Ready (listed shape list.now) n table.now }
     requires group { Group n shape.d s e f }
     ensures { result ≡ step_of (listed shape list.now) (view n shape.d table.now) header.now s e f }
@@ -105,26 +102,26 @@ fn one_step(
     let mid = s + (e - s) / 2;
     let rule = rule_in(table, mid);
     if n <= rule {
-        return Step::Broken;
+        return Err(Broken);
     }
     let from = from_in(table, n, d, mid, f);
     let to = to_in(table, n, d, mid, f);
     if !run_stands(s, e, mid, from, to) {
-        return Step::Broken;
+        return Err(Broken);
     }
     let range = range_at(shape, list, rule, f);
     let x = header[f as usize];
     if is_below(range, x) {
-        return Step::On { s, e: from, f };
+        return Ok(Step { s, e: from, f });
     }
     if is_past(range, x) {
-        return Step::On { s: to, e, f };
+        return Ok(Step { s: to, e, f });
     }
-    Step::On {
+    Ok(Step {
         s: from,
         e: to,
         f: f + 1,
-    }
+    })
 }
 
 // Ends a walk at field d on places s to before e: gives the rule of the one place that is left, held against the header in
@@ -138,54 +135,58 @@ fn arrive(
     s: u16,
     e: u16,
     tests: u16,
-) -> Walked
+) -> Result<Ran, Broken>
     requires ready { Ready (listed shape list.now) n table.now }
     requires some_places { (s < e) × (e ≤ n) }
     ensures { result ≡ arrived_of (listed shape list.now) (view n shape.d table.now) header.now s e tests }
 {
     if e != s + 1 {
-        return Walked::Broken;
+        return Err(Broken);
     }
     let rule = rule_in(table, s);
     if !rule_fits(shape, list, rule, *header) {
-        return Walked::Broken;
+        return Err(Broken);
     }
-    Walked::Ran(Found::Hit(rule), tests)
+    Ok(Ran {
+        found: Some(rule),
+        tests,
+    })
 }
 
 // What stands for a broken table where an answer's rule number would stand.
-const NO_ANSWER: u32 = 65535;
+const NO_ANSWER: u16 = 65535;
 
 // What stands for a miss there.
-const NO_RULE: u32 = 65534;
+const NO_RULE: u16 = 65534;
 
 // Gives a walk's answer as one number: 65536 times the rule number, or what stands for it, and the tests. A number comes
 // back in a register, so that the walk's call of itself costs no more than a turn of a loop.
-fn pack(walked: Walked) -> u32
+fn pack(walked: Result<Ran, Broken>) -> u32
     ensures { result ≡ packed walked }
 {
-    let Walked::Ran(found, tests) = walked else {
-        return NO_ANSWER * 65536;
+    let Ok(Ran { found, tests }) = walked else {
+        return NO_ANSWER as u32 * 65536;
     };
-    let Found::Hit(rule) = found else {
-        return NO_RULE * 65536 + tests as u32;
-    };
-    rule as u32 * 65536 + tests as u32
+    found.unwrap_or(NO_RULE) as u32 * 65536 + tests as u32
 }
 
 // Gives the answer that a number stands for.
-pub(crate) fn unpack(code: u32) -> Walked
+#[tactic(auto, unfolding(crate::specs::Packed::unpacked))]
+pub(crate) fn unpack(code: u32) -> Result<Ran, Broken>
     ensures { result ≡ unpacked code }
 {
-    let what = code / 65536;
+    let what = (code / 65536) as u16;
     let tests = (code % 65536) as u16;
     if what == NO_ANSWER {
-        return Walked::Broken;
+        return Err(Broken);
     }
     if what == NO_RULE {
-        return Walked::Ran(Found::Miss, tests);
+        return Ok(Ran { found: None, tests });
     }
-    Walked::Ran(Found::Hit(what as u16), tests)
+    Ok(Ran {
+        found: Some(what),
+        tests,
+    })
 }
 
 // Walks on from places s to before e at field f, with some tests made: gives what it finds and all tests made, or a broken
@@ -210,14 +211,14 @@ pub(crate) fn walk(
     let dates = shape.dates;
     let shape = Shape { d, dates };
     if e <= s {
-        return pack(Walked::Ran(Found::Miss, tests));
+        return pack(Ok(Ran { found: None, tests }));
     }
     if d <= f as usize {
         return pack(arrive(shape, n, *list, *table, header, s, e, tests));
     }
     let step = one_step(shape, n, *list, *table, header, s, e, f);
-    let Step::On { s, e, f } = step else {
-        return pack(Walked::Broken);
+    let Ok(Step { s, e, f }) = step else {
+        return pack(Err(Broken));
     };
     walk(shape, n, list, table, header, s, e, f, tests + 1)
 }

@@ -14,8 +14,8 @@ abbrev pub OneAnswer : (n : ℕ) (ps : List (ParamKind n)) (r : ResultKind n) �
 OneAnswer n ps r Says =
     (κs : Lfts n) (a : Dens κs ps) (x y : (res_t r κs).Denot) (e g : AtExit (ended_of n ps r) κs) → Says κs a x e → Says κs a y g → x ≡ y
 
--- any two runs that `Says`, a function's `ensures` as its callers learn it, allows it to leave are equal; `run` finds the run among the
--- parameters at exit
-abbrev pub OneRun : (n : ℕ) (ps : List (ParamKind n)) (r : ResultKind n) → Out n ps r → ((κs : Lfts n) → AtExit (ended_of n ps r) κs → List ℕ) → Type 0
+-- any two runs that `Says`, a function's `ensures` as its callers learn it, allows it to leave are equal, or any two of what else it
+-- leaves; `run` finds it among the parameters at exit
+abbrev pub OneRun : {A : Type 0} (n : ℕ) (ps : List (ParamKind n)) (r : ResultKind n) → Out n ps r → ((κs : Lfts n) → AtExit (ended_of n ps r) κs → A) → Type 0
 OneRun n ps r Says run =
     (κs : Lfts n) (a : Dens κs ps) (x y : (res_t r κs).Denot) (e g : AtExit (ended_of n ps r) κs) → Says κs a x e → Says κs a y g → run κs e ≡ run κs g

@@ -1,33 +1,21 @@
--- Numbers of a table as the code reads them (`src/read.rt`): at an offset that a callee gave, and 0 past the table's end.
---     past_end, read_at                  the two ways of a reader
---     part_not, part_test, part_spans    a partition is broken by its starts, or not
+-- Numbers of a table as the code reads them (`src/read.rt`): at an offset that a callee gave.
+--     read_at                            what is read, at an offset that a callee gave
+--     part_spans                         what it means that a partition is not broken by its starts
 -- Assumes nothing.
 use Prim.Native.Nat.{ℕ, suc, ◌≤◌, ◌<◌}
-use mathlib.Core.Bool.{true, false}
+use mathlib.Core.Bool.{true}
 use mathlib.Core.List.{List}
-use mathlib.Core.Path.{◌≡◌, sym, ap, ◌∙◌}
-use lib.ListN.{length, get_or, get_or-eq_default}
+use mathlib.Core.Path.{◌≡◌, ap, ◌∙◌}
+use lib.ListN.{get_or}
 use lib.Dec.{ltb, leb}
-use borrow.Author.Tests.{lt-ltb, le-ltb, ltb-true, leb-true}
+use borrow.Author.Tests.{ltb-true, leb-true}
 use Rattle.ranges.proofs.Numbers.{and_left, and_right}
 use Rattle.tables.specs.Opening.{part_stands}
-
-pub past_end : (T : List ℕ) (at : ℕ) → length T ≤ at → 0 ≡ get_or T at 0
-past_end T at past = sym (get_or-eq_default T 0 past)
 
 -- r is what was read, at k as a callee gave it
 pub read_at : (T : List ℕ) {r k at : ℕ} → r ≡ get_or T k 0 → k ≡ at → r ≡ get_or T at 0
 read_at T is_r is-k = is_r ∙ ap (λ m. get_or T m 0) is-k
 
--- ---- a partition's starts, s and e as read
-module _ (n : ℕ) (start : ℕ → ℕ) (q : ℕ) {s e : ℕ} (is-s : s ≡ start q) (is-e : e ≡ start (suc q)) where
-  pub part_not : e ≤ s → false ≡ part_stands n start q
-  part_not le = rw (← is-s, ← is-e, le-ltb s e le)
-
-  pub part_test : s < e → leb e n ≡ part_stands n start q
-  part_test lt = rw (← is-s, ← is-e, lt-ltb s e lt)
-
--- what it means that a partition is not broken by its starts
 pub part_spans : (n : ℕ) (start : ℕ → ℕ) (q : ℕ) → part_stands n start q ≡ true → (start q < start (suc q)) × (start (suc q) ≤ n)
 part_spans n start q e =
     let s = start q in

@@ -9,10 +9,7 @@ use crate::layout::{B_AT, from_at, least_at, order_at, start_at, to_at};
 pub(crate) fn number_at(table: &[u16], at: usize) -> u16
     ensures { result ≡ get_or table.now at 0 }
 {
-    if table.len() <= at {
-        return 0;
-    }
-    table[at]
+    table.get(at).copied().unwrap_or(0)
 }
 
 // Reads b, the number of partitions.

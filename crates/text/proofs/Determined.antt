@@ -23,12 +23,12 @@ use Rattle.text.proofs.line.read_line.Kinds as read_line_kinds
 use Rattle.text.proofs.line.read_line.Reads as read_line_reads
 use Rattle.text.proofs.line.end_line.Kinds as end_line_kinds
 use Rattle.text.proofs.line.end_line.Reads as end_line_reads
-use Rattle.text.proofs.put.put_byte.Kinds as put_byte_kinds
-use Rattle.text.proofs.put.put_byte.Reads as put_byte_reads
-use Rattle.text.proofs.put.put_text.Kinds as put_text_kinds
-use Rattle.text.proofs.put.put_text.Reads as put_text_reads
-use Rattle.text.proofs.put.put_number.Kinds as put_number_kinds
-use Rattle.text.proofs.put.put_number.Reads as put_number_reads
+use Rattle.text.proofs.put.Out.byte.Kinds as byte_kinds
+use Rattle.text.proofs.put.Out.byte.Reads as byte_reads
+use Rattle.text.proofs.put.Out.text.Kinds as text_kinds
+use Rattle.text.proofs.put.Out.text.Reads as text_reads
+use Rattle.text.proofs.put.Out.number.Kinds as number_kinds
+use Rattle.text.proofs.put.Out.number.Reads as number_reads
 use Rattle.text.proofs.row.row_start.Kinds as row_start_kinds
 use Rattle.text.proofs.row.row_start.Reads as row_start_reads
 use Rattle.text.proofs.row.row_byte.Kinds as row_byte_kinds
@@ -108,24 +108,24 @@ end_line_one κs a x y e g p q = last_one p q
 pub end_line_run_one : OneRun 1 end_line_kinds.ps end_line_kinds.r end_line_reads.Learnt (λ κs e. e.1.1.0.now)
 end_line_run_one κs a x y e g p q = last_run_one p q
 
--- ---- put, and the bytes afterwards
-pub put_byte_one : OneAnswer 1 put_byte_kinds.ps put_byte_kinds.r put_byte_reads.Learnt
-put_byte_one κs a x y e g p q = place_one p q
+-- ---- put: the place, and the bytes afterwards
+pub byte_place_one : OneRun 2 byte_kinds.ps byte_kinds.r byte_reads.Learnt (λ κs e. e.0.now.at)
+byte_place_one κs a x y e g p q = place_one p.put q.put
 
-pub put_byte_run_one : OneRun 1 put_byte_kinds.ps put_byte_kinds.r put_byte_reads.Learnt (λ κs e. e.1.0.now)
-put_byte_run_one κs a x y e g p q = bytes_one p q
+pub byte_run_one : OneRun 2 byte_kinds.ps byte_kinds.r byte_reads.Learnt (λ κs e. e.0.now.bytes.now)
+byte_run_one κs a x y e g p q = bytes_one p.put q.put
 
-pub put_text_one : OneAnswer 2 put_text_kinds.ps put_text_kinds.r put_text_reads.Learnt
-put_text_one κs a x y e g p q = place_one p q
+pub text_place_one : OneRun 3 text_kinds.ps text_kinds.r text_reads.Learnt (λ κs e. e.0.now.at)
+text_place_one κs a x y e g p q = place_one p.put q.put
 
-pub put_text_run_one : OneRun 2 put_text_kinds.ps put_text_kinds.r put_text_reads.Learnt (λ κs e. e.1.0.now)
-put_text_run_one κs a x y e g p q = bytes_one p q
+pub text_run_one : OneRun 3 text_kinds.ps text_kinds.r text_reads.Learnt (λ κs e. e.0.now.bytes.now)
+text_run_one κs a x y e g p q = bytes_one p.put q.put
 
-pub put_number_one : OneAnswer 1 put_number_kinds.ps put_number_kinds.r put_number_reads.Learnt
-put_number_one κs a x y e g p q = place_one p q
+pub number_place_one : OneRun 2 number_kinds.ps number_kinds.r number_reads.Learnt (λ κs e. e.0.now.at)
+number_place_one κs a x y e g p q = place_one p.put q.put
 
-pub put_number_run_one : OneRun 1 put_number_kinds.ps put_number_kinds.r put_number_reads.Learnt (λ κs e. e.1.0.now)
-put_number_run_one κs a x y e g p q = bytes_one p q
+pub number_run_one : OneRun 2 number_kinds.ps number_kinds.r number_reads.Learnt (λ κs e. e.0.now.bytes.now)
+number_run_one κs a x y e g p q = bytes_one p.put q.put
 
 -- ---- row
 pub row_start_one : OneAnswer 0 row_start_kinds.ps row_start_kinds.r row_start_reads.Learnt

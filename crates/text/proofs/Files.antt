@@ -1,8 +1,7 @@
 -- A file read byte by byte is read line by line (`specs/Files.antt`), whatever the reader does for a byte of a line and
 -- for a line's end, as long as the file's end after a byte is the line's end, and after a line's end does nothing.
---     plain_cr, plain_byte, open_plain, open_lone, step_ends, step_open     one byte, way by way
+--     open_plain, open_lone, step_ends, step_open                           one byte, way by way
 --     line_empty, line_ends, line_more, line_some, line_most_lem, line_on_lem       bytes up to the end of the present line
---     last_none, last_some, finish-plain, finish_lone                       the file's end, way by way
 --     file_is                                                               a whole file
 --     fed_map, finish_map                                                   a change of state that bytes and line ends do not see
 -- Assumes nothing.
@@ -30,14 +29,6 @@ unfolding ends_line
 ends_waited cr b waits = rw waits
 
 module _ {X : Type 0} (byte : X → ℕ → X) where
-  pub plain_cr : (x : X) (b : ℕ) → b ≡ 13 → plain byte x b ≡ in_file true x
-  unfolding plain
-  plain_cr x b is = rw (eq-eqb b 13 is)
-
-  pub plain_byte : (x : X) (b : ℕ) → (b ≡ 13 → ⊥) → {y : X} → y ≡ byte x b → plain byte x b ≡ in_file false y
-  unfolding plain
-  plain_byte x b other read = rw (ne_eqb b 13 other, read)
-
   module _ (s : InFile X) (b : ℕ) where
     pub open_plain : s.cr ≡ false → open_byte byte s b ≡ plain byte s.at b
     unfolding open_byte
@@ -122,25 +113,6 @@ line_on_lem cr bytes i lt is =
     let size : length part ≡ length bytes - i = ap length (rest_is bytes i) ∙ length-drop i bytes in
     let some : 0 < length part = omega arith in
     (omega (arith, line_some cr part some), omega (arith, line_most_lem cr part))
-
--- ---- the file's end
-module _ {X : Type 0} (close : X → X) (begun : X → Bool) where
-  pub last_none : (x : X) → begun x ≡ false → last_line close begun x ≡ x
-  unfolding last_line
-  last_none x none = rw none
-
-  pub last_some : (x : X) → begun x ≡ true → {y : X} → y ≡ close x → last_line close begun x ≡ y
-  unfolding last_line
-  last_some x some closed = rw (some, closed)
-
-  module _ (byte : X → ℕ → X) (s : InFile X) where
-    pub finish-plain : s.cr ≡ false → finish byte close begun s ≡ last_line close begun s.at
-    unfolding finish
-    finish-plain none = rw none
-
-    pub finish_lone : s.cr ≡ true → {y : X} → y ≡ byte s.at 13 → finish byte close begun s ≡ last_line close begun y
-    unfolding finish
-    finish_lone waits read = rw (waits, read)
 
 -- ---- a whole file
 module _ {X : Type 0} (byte : X → ℕ → X) (close : X → X) (begun : X → Bool)

@@ -1,9 +1,5 @@
 -- Laws of a line of CSV cells as its reader holds it (`specs/Lines.antt`), and the statement that its bytes come to it.
---     feed_here, feed_before              whether an LF has come
---     line_ends_cell, line_takes          one byte of a line
---     cell_ended_lem                          a cell's end
 --     Going, going_start, going_more, going_ends, going_all               bytes to the end of the present line
---     last_nothing, last_something, last_plain, last_lone                 the file's end
 --     line_is                             all bytes of a line
 -- Assumes nothing.
 use Prim.Native.Nat.{ℕ, suc, ◌+◌, ◌≤◌, ◌<◌}
@@ -11,74 +7,52 @@ use mathlib.Core.Bool.{Bool, true, false}
 use mathlib.Core.List.{List, [], ◌∷◌}
 use mathlib.Core.Path.{◌≡◌, refl, sym, ap, ◌∙◌}
 use native.Mathlib.Omega.{arith}
-use borrow.Author.Tests.{eq-eqb, ne_eqb, eqb-true}
+use borrow.Author.Tests.{ne_eqb, eqb-true}
 use lib.Dec.{eqb}
 use lib.ListN.{length, get_or, take, drop, drop_of_length-le}
 use lib.Seq.{drop-cons}
 use Rattle.ranges.specs.Numbers.{pick}
 use Rattle.text.specs.Cells.{fed}
-use Rattle.text.specs.Rows.{row_next, kept_at, begin, ended, within, read_byte, read_cells}
-use Rattle.text.specs.Files.{in_file, ends_line, open_byte, line_in, ends_in}
-use Rattle.text.specs.Lines.{feed_in, cells_of, line_of, no_line, LineNow, line_now, in_file_now, reading, has_feed, cell_ended, byte_taken, line_byte, line_step, line_begun, TookLine, TookLast, whole_line}
-use Rattle.text.specs.declared.row.Row.{Row}
+use Rattle.text.specs.Rows.{begin, ended, within, read_byte, read_cells}
+use Rattle.text.specs.Files.{ends_line, open_byte, line_in, ends_in}
+use Rattle.text.specs.Lines.{feed_in, cells_of, line_of, no_line, LineNow, line_now, in_file_now, reading, has_feed, cell_ended, byte_taken, line_byte, line_step, TookLine, whole_line}
 use Rattle.text.specs.declared.line.Line.{Line}
 use Rattle.text.specs.declared.line.Reader.{Reader}
-use Rattle.text.specs.declared.line.LineRead.{LineRead}
 use Rattle.text.proofs.Feeding.{fed_more}
 use Rattle.text.proofs.Rows.{row_is}
-use Rattle.text.proofs.Files.{open_waits, step_ends, step_open, line_empty, line_ends, line_more, last_none, last_some}
+use Rattle.text.proofs.Files.{open_waits, step_ends, step_open, line_empty, line_ends, line_more}
 
 -- ---- one byte
 has_feed_lem : (feed : Bool) (b : ℕ) → has_feed feed b ≡ pick (eqb b 10) true feed
 unfolding has_feed
 has_feed_lem feed b = refl
 
-pub feed_here : (feed : Bool) (b : ℕ) → b ≡ 10 → has_feed feed b ≡ true
-unfolding has_feed
-feed_here feed b is = rw (eq-eqb b 10 is)
-
 pub feed_before : (feed : Bool) (b : ℕ) → (b ≡ 10 → ⊥) → has_feed feed b ≡ feed
 unfolding has_feed
 feed_before feed b other = rw (ne_eqb b 10 other)
 
-module _ (from : ℕ) (s : LineNow) (b : ℕ) where
-  pub line_ends_cell : b ≡ 44 → line_byte from s b ≡ cell_ended from s
-  unfolding line_byte
-  line_ends_cell is = rw (eq-eqb b 44 is)
-
-  pub line_takes : (b ≡ 44 → ⊥) → {y : Line} → y ≡ byte_taken s.line b → line_now y s.run ≡ line_byte from s b
-  unfolding line_byte
-  line_takes other taken = rw (ne_eqb b 44 other, taken)
-
--- a cell ends, as the code has it
-pub cell_ended_lem : (from : ℕ) (s : LineNow) {row : Row} {run : List ℕ} → row ≡ row_next s.line.row → run ≡ kept_at s.line.row from s.run
-    → line_now (line_of true s.line.feed row) run ≡ cell_ended from s
-unfolding cell_ended
-cell_ended_lem from s next kept = rw (next, kept)
-
 -- ---- bytes to the end of the present line
 -- i bytes have been read, and the line has not ended in them
 pub record Going (from : ℕ) (r : Reader) (bytes run : List ℕ) (present : Reader) (left : List ℕ) (i : ℕ) : Type 0 where
-  pub within : i ≤ length bytes
-  pub long : length left ≡ length run
   pub line : in_file_now present left ≡ fed (line_step from) (in_file_now r run) (take i bytes)
   pub used : line_in r.cr bytes ≡ i + line_in present.cr (drop i bytes)
   pub ended : ends_in r.cr bytes ≡ ends_in present.cr (drop i bytes)
 
 module _ (from : ℕ) (r : Reader) (bytes run : List ℕ) where
   pub going_start : Going from r bytes run r run 0
-  going_start = record { within = omega arith; long = refl; line = refl; used = omega arith; ended = refl }
+  going_start = record { line = refl; used = omega arith; ended = refl }
 
   module _ {present : Reader} {left : List ℕ} {i : ℕ} (going : Going from r bytes run present left i) where
     -- all bytes
-    pub going_all : length bytes ≤ i → TookLine from r bytes run (record { reader = present; used = i; ended = false }) left
-    going_all all =
+    pub going_all : i ≡ length bytes → TookLine from r bytes run (record { reader = present; used = length bytes; ended = false }) left
+    going_all is =
+        let all : length bytes ≤ i = omega arith in
         let rest : drop i bytes ≡ [] = drop_of_length-le bytes all in
         let none = line_empty present.cr in
         record {
-          used = let is : line_in present.cr (drop i bytes) ≡ 0 = ap (line_in present.cr) rest ∙ none.0 in omega (arith, going.used);
+          used = let left : line_in present.cr (drop i bytes) ≡ 0 = ap (line_in present.cr) rest ∙ none.0 in omega (arith, going.used);
           ended = sym (going.ended ∙ ap (ends_in present.cr) rest ∙ none.1);
-          line = going.line;
+          line = rw (← is) going.line;
         }
 
     module _ (more : i < length bytes) where
@@ -103,16 +77,14 @@ module _ (from : ℕ) (r : Reader) (bytes run : List ℕ) where
           }
 
       -- another byte
-      pub going_more : ends_line present.cr here ≡ false → {next : Reader} {after : List ℕ} → length after ≡ length left
+      pub going_more : ends_line present.cr here ≡ false → {next : Reader} {after : List ℕ}
           → in_file_now next after ≡ open_byte (line_byte from) (in_file_now present left) here → Going from r bytes run next after (i + 1)
-      going_more goes {next} {after} kept read =
+      going_more goes {next} {after} read =
           let on = line_more present.cr here (drop (suc i) bytes) goes in
           let waits : next.cr ≡ eqb here 13 = ap (λ s. s.cr) read ∙ open_waits (line_byte from) (in_file_now present left) here in
           let one : i + 1 ≡ suc i = omega arith in
           let used : line_in present.cr (drop i bytes) ≡ suc (line_in next.cr (drop (i + 1) bytes)) = rw (waits, one) (ap (line_in present.cr) next_byte ∙ on.0) in
           record {
-            within = omega arith;
-            long = kept ∙ going.long;
             line =
                 sym (fed_more (line_step from) (in_file_now r run) bytes i more
                 ∙ ap (λ s. line_step from s here) (sym going.line)
@@ -121,31 +93,6 @@ module _ (from : ℕ) (r : Reader) (bytes run : List ℕ) where
             used = omega (arith, going.used);
             ended = rw (waits, one) (going.ended ∙ ap (ends_in present.cr) next_byte ∙ on.1);
           }
-
--- ---- the file's end
-module _ (from : ℕ) (line : Line) (run : List ℕ) where
-  -- nothing of the line has come
-  pub last_nothing : line.begun ≡ false
-      → TookLast from (record { cr = false; line = line }) run (record { reader = record { cr = false; line = line }; used = 0; ended = false }) run
-  last_nothing none = record { used = refl; ended = sym none; line = ap (in_file false) (sym (last_none (cell_ended from) line_begun (line_now line run) none)) }
-
-  pub last_something : line.begun ≡ true → {y : Line} {after : List ℕ} → line_now y after ≡ cell_ended from (line_now line run)
-      → TookLast from (record { cr = false; line = line }) run (record { reader = record { cr = false; line = y }; used = 0; ended = true }) after
-  last_something some closed =
-      record {
-        used = refl;
-        ended = sym some;
-        line = ap (in_file false) (sym (last_some (cell_ended from) line_begun (line_now line run) some closed));
-      }
-
-module _ (from : ℕ) (r : Reader) (run : List ℕ) {read : LineRead} {after : List ℕ} where
-  -- the same where no CR waits, and where one does
-  pub last_plain : r.cr ≡ false → TookLast from (record { cr = false; line = r.line }) run read after → TookLast from r run read after
-  last_plain none took = record { used = took.used; ended = rw none took.ended; line = rw none took.line }
-
-  pub last_lone : r.cr ≡ true → {y : Line} {left : List ℕ} → line_now y left ≡ line_byte from (line_now r.line run) 13
-      → TookLast from (record { cr = false; line = y }) left read after → TookLast from r run read after
-  last_lone waits lone took = record { used = took.used; ended = rw (waits, ← lone) took.ended; line = rw (waits, ← lone) took.line }
 
 -- ---- all bytes of a line
 -- its cells

@@ -1,8 +1,9 @@
 -- Laws of bytes put from a place on (`specs/Puts.antt`).
---     put_no_byte, put_past       no byte; a byte past the run's end
+--     put_no_byte                 no byte
 --     put_then, put_byte_more     bytes after bytes; one byte more of a text
 --     put_long                    the run keeps its length
 --     put_place, put-fits         where there is room, every byte is there
+--     puts_none, puts_then, puts_more     the same of a run that is lent with its place
 -- Assumes nothing.
 use Prim.Native.Nat.{ℕ, suc, ◌+◌, ◌≤◌, ◌<◌}
 use mathlib.Core.Bool.{Bool, true, false}
@@ -14,7 +15,8 @@ use lib.Dec.{leb}
 use borrow.Author.Tests.{leb-true, leb-false}
 use lib.ListN.{length, get_or, take, drop, set, length-append}
 use lib.Seq.{sets, sets-eq, length-sets, set_out, take-suc}
-use Rattle.text.specs.Puts.{place_after, Put}
+use Rattle.text.specs.Puts.{place_after, Put, Puts}
+use Rattle.text.specs.declared.put.Out.{Out}
 
 -- a store past the end changes nothing, nor do many
 sets_out : (l : List ℕ) (i : ℕ) (vs : List ℕ) → length l ≤ i → sets l i vs ≡ l
@@ -54,9 +56,6 @@ module _ {out : List ℕ} {at : ℕ} where
   pub put_no_byte : Put out at [] out at
   put_no_byte = record { place = omega arith; bytes = refl }
 
-  pub put_past : {b : ℕ} → length out ≤ at → Put out at (b ∷ []) out at
-  put_past {b} past = record { place = omega arith; bytes = sym (set_out out at b past) }
-
 module _ {out : List ℕ} {at : ℕ} {xs after : List ℕ} {next : ℕ} (first : Put out at xs after next) where
   pub put_long : length after ≡ length out
   put_long = ap length first.bytes ∙ length-sets out at xs
@@ -87,3 +86,14 @@ module _ {out : List ℕ} {at : ℕ} {xs after : List ℕ} {next : ℕ} (first :
 pub put_byte_more : (text : List ℕ) (i : ℕ) {out : List ℕ} {at : ℕ} {after : List ℕ} {next : ℕ} {last : List ℕ} {end : ℕ} → i < length text
     → Put out at (take i text) after next → Put after next (get_or text i 0 ∷ []) last end → Put out at (take (i + 1) text) last end
 put_byte_more text i lt first second = rw (add-one i, take-suc text i 0) (put_then first second)
+
+-- ---- a run that is lent with its place
+pub puts_none : {o : Out} → Puts o [] o
+puts_none = record { put = put_no_byte; same_run = refl }
+
+pub puts_then : {o p q : Out} {xs ys : List ℕ} → Puts o xs p → Puts p ys q → Puts o (xs ++ ys) q
+puts_then first second = record { put = put_then first.put second.put; same_run = second.same_run ∙ first.same_run }
+
+-- one byte more of a text
+pub puts_more : (text : List ℕ) (i : ℕ) {o p q : Out} → i < length text → Puts o (take i text) p → Puts p (get_or text i 0 ∷ []) q → Puts o (take (i + 1) text) q
+puts_more text i lt first second = record { put = put_byte_more text i lt first.put second.put; same_run = second.same_run ∙ first.same_run }

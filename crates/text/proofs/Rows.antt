@@ -1,19 +1,18 @@
 -- Laws of a line of numbers read cell by cell (`specs/Rows.antt`), and the statement that its bytes come to its cells.
 --     more_few, more_many                  one cell more
 --     kept_length, kept_long               the run keeps its length
---     read_ends, read_takes                one byte of a line
 --     row_is                               all bytes of a line: its cells
 -- Assumes nothing.
 use Prim.Native.Nat.{ℕ, ◌+◌, ◌-◌, ◌≤◌, ◌<◌}
 use mathlib.Core.Bool.{Bool, true, false}
 use mathlib.Core.List.{List, [], ◌∷◌}
 use mathlib.Core.Path.{◌≡◌, refl, ◌∙◌}
-use borrow.Author.Tests.{lt-ltb, le-ltb, eq-eqb, ne_eqb}
+use borrow.Author.Tests.{lt-ltb, le-ltb}
 use lib.ListN.{length, length-set}
 use lib.Dec.{eqb}
 use Rattle.ranges.specs.Numbers.{pick}
 use Rattle.text.specs.Cells.{fed, with_byte}
-use Rattle.text.specs.Rows.{counted_to, one_more, row_with, row_next, kept_as, kept_at, in_front, cells_in, Reading, begin, ended, within, read_byte, read_cell, read_cells}
+use Rattle.text.specs.Rows.{counted_to, one_more, row_next, kept_as, kept_at, in_front, cells_in, Reading, begin, ended, within, read_byte, read_cell, read_cells}
 use Rattle.text.proofs.Cells.{cell_is}
 use Rattle.text.specs.declared.cell.Cell.{Cell}
 use Rattle.text.specs.declared.cell.Cell.TheVariants.{Empty, Number, Bad}
@@ -37,16 +36,6 @@ kept_length Bad at run = refl
 pub kept_long : (row : Row) (from : ℕ) (run : List ℕ) → length (kept_at row from run) ≡ length run
 unfolding kept_at
 kept_long row from run = kept_length row.cell (from + row.cells) run
-
--- ---- one byte of a line, as the code has it
-module _ (by from : ℕ) (s : Reading) {b : ℕ} {row : Row} where
-  pub read_ends : {run : List ℕ} → b ≡ by → row ≡ row_next s.row → run ≡ kept_at s.row from s.run → record { row = row; run = run } ≡ read_byte by from s b
-  unfolding read_byte
-  read_ends is next kept = rw (next, kept, eq-eqb b by is)
-
-  pub read_takes : (b ≡ by → ⊥) → row ≡ row_with s.row b → record { row = row; run = s.run } ≡ read_byte by from s b
-  unfolding read_byte
-  read_takes other more = rw (more, ne_eqb b by other)
 
 -- ---- the bytes of a line come to its cells
 -- the present cell takes whole bytes and ends

@@ -14,35 +14,28 @@ pub enum Cell {
 }
 
 // Gives what a cell comes to with one digit more, a number below 10.
+#[tactic(auto, unfolding(crate::specs::Cells::with_digit))]
 fn with_digit(cell: Cell, digit: u8) -> Cell
     requires { digit < 10 }
     ensures { result ≡ with_digit cell digit }
 {
     match cell {
         Cell::Empty => Cell::Number(digit as u32),
+        Cell::Number(0) | Cell::Bad => Cell::Bad,
         Cell::Number(v) => {
-            if v == 0 {
-                return Cell::Bad;
-            }
             let x = v as u64 * 10 + digit as u64;
-            if 4294967295 < x {
-                return Cell::Bad;
-            }
-            Cell::Number(x as u32)
+            u32::try_from(x).map_or(Cell::Bad, Cell::Number)
         }
-        Cell::Bad => Cell::Bad,
     }
 }
 
 // Gives what a cell comes to with one byte more.
+#[tactic(auto, unfolding(crate::specs::Cells::with_byte))]
 pub fn with_byte(cell: Cell, byte: u8) -> Cell
     ensures { result ≡ with_byte cell byte }
 {
-    if byte < b'0' {
-        return Cell::Bad;
+    match byte {
+        b'0'..=b'9' => with_digit(cell, byte - b'0'),
+        _ => Cell::Bad,
     }
-    if b'9' < byte {
-        return Cell::Bad;
-    }
-    with_digit(cell, byte - b'0')
 }

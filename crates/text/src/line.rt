@@ -21,7 +21,8 @@ pub struct Reader {
     pub line: Line,
 }
 
-// What a reader did with bytes: the line then, how many bytes it took, and whether the line has ended.
+// What a reader did with bytes: the line then, which stands either way, how many bytes it took, and whether the line has
+// ended.
 #[derive(Clone, Copy)]
 pub struct LineRead {
     pub reader: Reader,
@@ -51,25 +52,22 @@ pub fn reader_start() -> Reader
 }
 
 // Says whether an LF has come, after one byte more.
+#[tactic(auto, unfolding(crate::specs::Lines::has_feed))]
 fn has_feed(feed: bool, byte: u8) -> bool
     ensures { result ≡ has_feed feed byte }
 {
-    if byte == b'\n' {
-        return true;
-    }
-    feed
+    feed || byte == b'\n'
 }
 
 // Ends the present cell of a line; its number, where it is one, goes to its place in the run.
+#[tactic(auto, unfolding(crate::specs::Lines::cell_ended))]
 fn end_cell(line: Line, from: u32, run: &mut [u32]) -> Line
     ensures { line_now result run.new ≡ cell_ended from (line_now line run.old) }
 {
-    let last = line.row;
-    let row = row_next(last, from, run);
     Line {
         begun: true,
-        feed: line.feed,
-        row,
+        row: row_next(line.row, from, run),
+        ..line
     }
 }
 
@@ -77,15 +75,15 @@ fn end_cell(line: Line, from: u32, run: &mut [u32]) -> Line
 fn take_byte(line: Line, byte: u8) -> Line
     ensures { result ≡ byte_taken line byte }
 {
-    let row = line.row;
     Line {
         begun: true,
         feed: has_feed(line.feed, byte),
-        row: row_byte(row, byte),
+        row: row_byte(line.row, byte),
     }
 }
 
 // Reads one byte of a line.
+#[tactic(auto, unfolding(crate::specs::Lines::line_byte))]
 fn line_byte(line: Line, byte: u8, from: u32, run: &mut [u32]) -> Line
     ensures { line_now result run.new ≡ line_byte from (line_now line run.old) byte }
 {
@@ -96,6 +94,7 @@ fn line_byte(line: Line, byte: u8, from: u32, run: &mut [u32]) -> Line
 }
 
 // Reads one byte where no CR waits.
+#[tactic(auto, unfolding(crate::specs::Files::plain))]
 fn plain_byte(line: Line, byte: u8, from: u32, run: &mut [u32]) -> Reader
     ensures { in_file_now result run.new ≡ plain (line_byte from) (line_now line run.old) byte }
 {
@@ -109,25 +108,23 @@ fn plain_byte(line: Line, byte: u8, from: u32, run: &mut [u32]) -> Reader
 }
 
 // Reads one byte that does not end the line: a CR that waited is a byte of the line.
+#[tactic(auto, unfolding(crate::specs::Files::open_byte))]
 fn open_byte(reader: Reader, byte: u8, from: u32, run: &mut [u32]) -> Reader
     ensures { in_file_now result run.new ≡ open_byte (line_byte from) (in_file_now reader run.old) byte }
 {
-    let line = reader.line;
     if !reader.cr {
-        return plain_byte(line, byte, from, run);
+        return plain_byte(reader.line, byte, from, run);
     }
-    let lone = line_byte(line, b'\r', from, run);
+    let lone = line_byte(reader.line, b'\r', from, run);
     plain_byte(lone, byte, from, run)
 }
 
 // Says whether a byte ends the line: an LF, where a CR waits.
+#[tactic(auto, unfolding(crate::specs::Files::ends_line))]
 fn ends_line(cr: bool, byte: u8) -> bool
     ensures { result ≡ ends_line cr byte }
 {
-    if !cr {
-        return false;
-    }
-    byte == b'\n'
+    cr && byte == b'\n'
 }
 
 // Reads bytes to the end of the present line, or all where it does not end in them. Numbers go to the run from place
@@ -136,32 +133,28 @@ pub fn read_line(reader: Reader, bytes: &[u8], from: u32, run: &mut [u32]) -> Li
     ensures { TookLine from reader bytes.now run.old result run.new }
 {
     let mut present = reader;
-    let mut i = 0;
-    while i < bytes.len() {
-        let byte = bytes[i];
-        let cr = present.cr;
-        if ends_line(cr, byte) {
-            let line = present.line;
+    for (i, byte) in bytes.iter().enumerate() {
+        if ends_line(present.cr, *byte) {
             return LineRead {
                 reader: Reader {
                     cr: false,
-                    line: end_cell(line, from, run),
+                    line: end_cell(present.line, from, run),
                 },
                 used: i + 1,
                 ended: true,
             };
         }
-        present = open_byte(present, byte, from, run);
-        i += 1;
+        present = open_byte(present, *byte, from, run);
     }
     LineRead {
         reader: present,
-        used: i,
+        used: bytes.len(),
         ended: false,
     }
 }
 
 // Ends a line at the file's end, where any byte of it has come.
+#[tactic(auto, unfolding(crate::specs::Files::last_line))]
 fn last_line(line: Line, from: u32, run: &mut [u32]) -> LineRead
     ensures { TookLast from (record { cr = false; line = line }) run.old result run.new }
 {
@@ -186,10 +179,9 @@ fn last_line(line: Line, from: u32, run: &mut [u32]) -> LineRead
 pub fn end_line(reader: Reader, from: u32, run: &mut [u32]) -> LineRead
     ensures { TookLast from reader run.old result run.new }
 {
-    let line = reader.line;
     if !reader.cr {
-        return last_line(line, from, run);
+        return last_line(reader.line, from, run);
     }
-    let lone = line_byte(line, b'\r', from, run);
+    let lone = line_byte(reader.line, b'\r', from, run);
     last_line(lone, from, run)
 }

@@ -1,40 +1,46 @@
-// Bytes put at a place of a lent run, and the place after them. What does not fit is left out, so that no place is
-// ever past the run's end that was not so before: a caller who needs every byte makes room first.
+// Bytes put at a place of a lent run. What does not fit is left out, so that no place is ever past the run's end that was
+// not so before: a caller who needs every byte makes room first.
 ghost use Rattle.std.specs.Prelude.{[], ◌∷◌};
 ghost use Rattle.text.specs.Decimals.{decimal_of};
-ghost use Rattle.text.specs.Puts.{Put};
+ghost use Rattle.text.specs.Puts.{Puts};
 
-// Puts one byte at a place, where there is one, and answers the next place.
-pub fn put_byte(byte: u8, out: &mut [u8], at: usize) -> usize
-    ensures { Put out.old at (byte ∷ []) out.new result }
-{
-    if at < out.len() {
-        out[at] = byte;
-        return at + 1;
-    }
-    at
+// A lent run of bytes, and the place in it where the next one goes.
+#[derive(Drop)]
+pub struct Out<'a> {
+    pub bytes: &'a mut [u8],
+    pub at: usize,
 }
 
-// Puts bytes from a place on, as far as there are places, and answers the place after them.
-pub fn put_text(text: &[u8], out: &mut [u8], at: usize) -> usize
-    ensures { Put out.old at text.now out.new result }
-{
-    let mut place = at;
-    let mut i = 0;
-    while i < text.len() {
-        place = put_byte(text[i], out, place);
-        i += 1;
+impl Out<'_> {
+    // Puts one byte, where there is a place.
+    pub fn byte(&mut self, byte: u8)
+        ensures { Puts self.old (byte ∷ []) self.new }
+    {
+        if self.at < self.bytes.len() {
+            self.bytes[self.at] = byte;
+            self.at += 1;
+        }
     }
-    place
-}
 
-// Puts a number's decimal digits from a place on, as far as there are places, and answers the place after them.
-pub fn put_number(n: u64, out: &mut [u8], at: usize) -> usize
-    ensures { Put out.old at (decimal_of n) out.new result }
-{
-    if n < 10 {
-        return put_byte(b'0' + n as u8, out, at);
+    // Puts bytes, as far as there are places.
+    pub fn text(&mut self, text: &[u8])
+        ensures { Puts self.old text.now self.new }
+    {
+        for byte in text {
+            self.byte(*byte);
+        }
     }
-    let next = put_number(n / 10, out, at);
-    put_byte(b'0' + (n % 10) as u8, out, next)
+
+    // Puts a number's decimal digits, as far as there are places.
+    #[tactic(auto, using(crate::proofs::Decimals::decimal_one))]
+    pub fn number(&mut self, n: u64)
+        ensures { Puts self.old (decimal_of n) self.new }
+    {
+        if n < 10 {
+            self.byte(b'0' + n as u8)
+        } else {
+            self.number(n / 10);
+            self.byte(b'0' + (n % 10) as u8)
+        }
+    }
 }

@@ -33,6 +33,7 @@ const COUNTED_TO: u32 = 65536;
 pub const EXACT_BELOW: u32 = COUNTED_TO - 1;
 
 // Counts one cell more.
+#[tactic(auto, unfolding(crate::specs::Rows::one_more))]
 fn one_more(cells: u32) -> u32
     ensures { result ≡ one_more cells }
 {

@@ -1,7 +1,6 @@
 -- `lookup::lookup::visit_all` meets its contract. At the loop's head the partitions before q had their turn, and what is left decides
--- the answer (`Turns.antt`: `Visited`); the measure is how many are left. The total stays small: at most 18 tests a partition.
+-- the answer (`Turns.antt`: `Visited`), where n stands for no candidate. The total stays small: at most 18 tests a partition.
 -- Assumes nothing.
-use Prim.Native.Nat.{◌-◌}
 use Rattle.lists.specs.Rules.{listed}
 use Rattle.tables.specs.Layout.{view}
 use Rattle.lookup.proofs.Turns.{Visited}
@@ -9,6 +8,3 @@ use Rattle.lookup.proofs.lookup.visit_all.Given as goal
 
 abbrev pub invariant-loop-q : goal.invariant-loop-q
 invariant-loop-q l = Visited (listed l.shape l.list) (view l.n l.shape.d l.table) l.header l.n l.b l.q l.best l.total
-
-abbrev pub decreases-loop-q : goal.decreases-loop-q
-decreases-loop-q l = l.b - l.q

@@ -25,16 +25,16 @@ returns-in_default t c =
 pub returns : goal.returns
 returns t c =
     let a = c.args in
-    let less : Smaller a.shape.d a.s a.e a.f c.in-On.s c.in-On.e c.in-On.f =
-    told_smaller _ _ _ _ a.shape.d a.s a.e a.f _ _ _ c.if-e-s.false c.if-d-f.false c.one_step-step.ensures c.in-On.is in
-    every_on _ _ _ _ _ _ _ _ _ c.if-e-s.false c.if-d-f.false _ _ _ _ _ c.one_step-step.ensures c.in-On.is less.falls c.walk.ensures
+    let less : Smaller a.shape.d a.s a.e a.f c.in-Ok.field-0.s c.in-Ok.field-0.e c.in-Ok.field-0.f =
+    told_smaller _ _ _ _ a.shape.d a.s a.e a.f _ _ _ c.if-e-s.false c.if-d-f.false c.one_step-step.ensures c.in-Ok.is in
+    every_on _ _ _ _ _ _ _ _ _ c.if-e-s.false c.if-d-f.false _ _ _ _ _ c.one_step-step.ensures c.in-Ok.is less.falls c.walk.ensures
 
 -- what the step left is smaller
 pub walk-requires : goal.walk-requires
 walk-requires t c =
     let a = c.args in
-    let less : Smaller a.shape.d a.s a.e a.f c.in-On.s c.in-On.e c.in-On.f =
-    told_smaller _ _ _ _ a.shape.d a.s a.e a.f _ _ _ c.if-e-s.false c.if-d-f.false c.one_step-step.ensures c.in-On.is in
+    let less : Smaller a.shape.d a.s a.e a.f c.in-Ok.field-0.s c.in-Ok.field-0.e c.in-Ok.field-0.f =
+    told_smaller _ _ _ _ a.shape.d a.s a.e a.f _ _ _ c.if-e-s.false c.if-d-f.false c.one_step-step.ensures c.in-Ok.is in
     let going = c.requires.going in (
       omega (arith, c.decreases, less.falls),
       (
