@@ -5,7 +5,7 @@
 --     fits-meet, meet-fits          two rules without a void range meet exactly when one header fits both
 --     shared_header                  that header: eight numbers, bounded by what bounds the list's (`shared_length`, `shared_below`)
 -- Assumes nothing.
-use Prim.Native.Nat.{ℕ, zero, suc, max, ◌+◌, ◌≤◌, ◌<◌, suc-le-suc}
+use Prim.Native.Nat.{ℕ, max, ◌+◌, ◌≤◌, ◌<◌}
 use mathlib.Core.Bool.{Bool, true, false}
 use mathlib.Core.List.{List}
 use mathlib.Core.Path.{◌≡◌, refl}
@@ -13,7 +13,7 @@ use native.Mathlib.Omega.{arith}
 use lib.ListN.{length, get_or}
 use lib.Dec.{ltb}
 use Rattle.std.specs.Prelude.{Some, None}
-use native.Mathlib.Nat.{le-max_left, le-max_right, max-le, le_of_suc-le-suc}
+use native.Mathlib.Nat.{le-max_left, le-max_right}
 use borrow.Author.Tests.{lt-ltb, le-ltb, ltb-true}
 use Rattle.ranges.specs.Numbers.{tab}
 use Rattle.ranges.proofs.Numbers.{and_left, and_right, and_both, all_yes, all_at, tab-length, tab_at}
@@ -90,11 +90,6 @@ module _ (R : Rules) (i j : ℕ) where
       and_both (ltb (low_of R i f) (ends_at R j f)) (ltb (low_of R j f) (ends_at R i f)) (lt-ltb (low_of R i f) (ends_at R j f) i-before)
       (lt-ltb (low_of R j f) (ends_at R i f) j-before))
 
--- a bound on the greater of two numbers
-max_lt : {a b : ℕ} (k : ℕ) → a < k → b < k → max a b < k
-max_lt zero a_lt b_lt = absurd (omega arith)
-max_lt (suc k) a_lt b_lt = suc-le-suc (max-le (le_of_suc-le-suc a_lt) (le_of_suc-le-suc b_lt))
-
 -- the header whose numbers are the greater of the two lows, field by field
 unfoldable pub shared_header : Rules → ℕ → ℕ → List ℕ
 shared_header R i j = tab header_length (λ f. max (low_of R i f) (low_of R j f))
@@ -111,7 +106,7 @@ module _ (R : Rules) (i j : ℕ) where
   -- what is above all of the list's numbers is above the header's
   pub shared_below : (k : ℕ) → ((m : ℕ) → get_or R.numbers m 0 < k) → (f : ℕ) → f < header_length → get_or (shared_header R i j) f 0 < k
   unfolding low_of
-  shared_below k below f lt = rw (shared_at f lt) (max_lt k (below (offset_of (fields_of R) i f)) (below (offset_of (fields_of R) j f)))
+  shared_below k below f lt = rw (shared_at f lt) (omega (arith, below (offset_of (fields_of R) i f), below (offset_of (fields_of R) j f)))
 
 module _ (R : Rules) (i j : ℕ) (few : fields_of R ≤ header_length) (sound-i : SoundRule R i) (sound-j : SoundRule R j) (met : meet R i j ≡ true) where
   -- each of the two ends is past both lows
@@ -123,7 +118,7 @@ module _ (R : Rules) (i j : ℕ) (few : fields_of R ≤ header_length) (sound-i 
       let here = all_at (meet_at R i j) (fields_of R) met f lt in
       let i-before = ltb-true (low_of R i f) (ends_at R j f) (and_left i-test j-test here) in
       let j-before = ltb-true (low_of R j f) (ends_at R i f) (and_right i-test j-test here) in
-      (max_lt (ends_at R i f) (sound-i f lt) j-before, max_lt (ends_at R j f) i-before (sound-j f lt))
+      (omega (arith, sound-i f lt), omega (arith, sound-j f lt))
 
   at_field : (f : ℕ) → f < fields_of R → get_or (shared_header R i j) f 0 ≡ max (low_of R i f) (low_of R j f)
   at_field f lt = shared_at R i j f (omega arith)

@@ -2,16 +2,15 @@
 --     part_said_one     two answers that say the same are one
 -- Assumes nothing.
 use mathlib.Core.List.{[], ◌∷◌}
-use mathlib.Core.Path.{◌≡◌, ap}
-use Rattle.ranges.specs.Refusals.{none}
-use Rattle.ranges.proofs.Numbers.{never}
-use Rattle.ranges.proofs.Answers.{said_refusal, said_answer}
+use mathlib.Core.Path.{◌≡◌}
+use Rattle.std.specs.Prelude.{Result}
+use Rattle.ranges.specs.declared.refusal.Refusal.{Refusal}
+use Rattle.ranges.proofs.Answers.{said_one}
 use Rattle.tables.specs.Report.{says_part}
 use Rattle.tables.specs.declared.report.Part.{Part}
-use Rattle.tables.specs.declared.report.Part.TheVariants.{Is, Refused}
 
-pub part_said_one : (a b : Part) → says_part a ≡ says_part b → a ≡ b
-part_said_one (Is s l) (Is t m) same = let e = said_answer none none (s ∷ l ∷ []) (t ∷ m ∷ []) same in cc
-part_said_one (Is s l) (Refused y) same = let e = said_answer none y (s ∷ l ∷ []) [] same in never (cc)
-part_said_one (Refused x) (Is t m) same = let e = said_answer x none [] (t ∷ m ∷ []) same in never (cc)
-part_said_one (Refused x) (Refused y) same = ap Refused (said_refusal x y [] [] same)
+pub part_said_one : (a b : Result Part Refusal) → says_part a ≡ says_part b → a ≡ b
+part_said_one a b same = said_one (λ (p : Part). p.size ∷ p.least ∷ []) one a b same
+  where
+    one : (p q : Part) → p.size ∷ p.least ∷ [] ≡ q.size ∷ q.least ∷ [] → p ≡ q
+    one p q e = let size : p.size ≡ q.size = cc in let least : p.least ≡ q.least = cc in rw (size, least)

@@ -1,14 +1,14 @@
 -- Numbers of a table as the code reads them (`src/read.rt`): at an offset that a callee gave.
 --     read_at                            what is read, at an offset that a callee gave
---     part_not, part_test, part_spans    a partition is broken by its starts, or not
+--     part_spans                         what it means that a partition is not broken by its starts
 -- Assumes nothing.
 use Prim.Native.Nat.{ℕ, suc, ◌≤◌, ◌<◌}
-use mathlib.Core.Bool.{true, false}
+use mathlib.Core.Bool.{true}
 use mathlib.Core.List.{List}
 use mathlib.Core.Path.{◌≡◌, ap, ◌∙◌}
 use lib.ListN.{get_or}
 use lib.Dec.{ltb, leb}
-use borrow.Author.Tests.{lt-ltb, le-ltb, ltb-true, leb-true}
+use borrow.Author.Tests.{ltb-true, leb-true}
 use Rattle.ranges.proofs.Numbers.{and_left, and_right}
 use Rattle.tables.specs.Opening.{part_stands}
 
@@ -16,15 +16,6 @@ use Rattle.tables.specs.Opening.{part_stands}
 pub read_at : (T : List ℕ) {r k at : ℕ} → r ≡ get_or T k 0 → k ≡ at → r ≡ get_or T at 0
 read_at T is_r is-k = is_r ∙ ap (λ m. get_or T m 0) is-k
 
--- ---- a partition's starts, s and e as read
-module _ (n : ℕ) (start : ℕ → ℕ) (q : ℕ) {s e : ℕ} (is-s : s ≡ start q) (is-e : e ≡ start (suc q)) where
-  pub part_not : e ≤ s → false ≡ part_stands n start q
-  part_not le = rw (← is-s, ← is-e, le-ltb s e le)
-
-  pub part_test : s < e → leb e n ≡ part_stands n start q
-  part_test lt = rw (← is-s, ← is-e, lt-ltb s e lt)
-
--- what it means that a partition is not broken by its starts
 pub part_spans : (n : ℕ) (start : ℕ → ℕ) (q : ℕ) → part_stands n start q ≡ true → (start q < start (suc q)) × (start (suc q) ≤ n)
 part_spans n start q e =
     let s = start q in

@@ -4,8 +4,8 @@
 -- Assumes nothing: these are definitions.
 use Rattle.std.specs.Prelude.{ℕ, suc, Bool, List, length, ltb, leb, eqb}
 use Rattle.ranges.specs.Numbers.{pick, ◌and◌}
-use Rattle.ranges.specs.Refusals.{none, refused, or_else, BadTableLength, BrokenTable}
-use Rattle.ranges.specs.declared.refusal.Refusal.{Refusal}
+use Rattle.ranges.specs.Refusals.{Fault, none, refused, or_else}
+use Rattle.ranges.specs.declared.refusal.Cause.TheVariants.{BadTableLength, BrokenTable}
 use Rattle.lists.specs.Rules.{Rules, fields_of, rules_in}
 use Rattle.lists.specs.Faults.{shape_fault}
 use Rattle.tables.specs.Layout.{View, view, table_length}
@@ -23,11 +23,11 @@ abbrev pub view_of : Rules → List ℕ → View
 view_of R T = view (rules_in R) (fields_of R) T
 
 -- 5: the table's length is not exactly as it should be
-abbrev pub table_fault : Rules → List ℕ → Refusal
+abbrev pub table_fault : Rules → List ℕ → Fault
 table_fault R T = pick (eqb (length T) (table_length (rules_in R) (fields_of R))) none (refused BadTableLength)
 
 -- 1, 2, 3, 5, then 6 for the opening
-unfoldable pub open_fault : Rules → List ℕ → Refusal
+unfoldable pub open_fault : Rules → List ℕ → Fault
 open_fault R T =
     or_else (shape_fault R)
     (or_else (table_fault R T)

@@ -7,10 +7,11 @@ ghost use Rattle.tables.specs.Opening.{opening, open_fault};
 use crate::layout::{D_AT, N_AT, table_length};
 use crate::read::{number_at, part_count, start_of};
 use lists::shape::{Shape, rules_in, shape_fault};
-use ranges::refusal::{BAD_TABLE_LENGTH, BROKEN_TABLE, Refusal, refuse};
+use ranges::refusal::{Cause, Refusal, refuse};
 
 // Says whether a table opens for n rules of d fields: its first two numbers are n and d, b is at most n, its first start is
 // 0, and its start number b is n.
+#[tactic(auto, unfolding(crate::specs::Opening::opening))]
 fn opens(n: u16, d: u16, table: &[u16]) -> bool
     ensures { result ≡ opening n d (view n d table.now) }
 {
@@ -30,22 +31,19 @@ fn opens(n: u16, d: u16, table: &[u16]) -> bool
     start_of(table, n, b) == n
 }
 
-// Gives the first of the refusals with which a lookup and a report begin, 1, 2, 3, 5 and 6 for the opening, that
-// applies, or the one that refuses nothing.
-pub fn open_fault(shape: Shape, list: &[u32], table: &[u16]) -> Refusal
+// Refuses a table as a lookup and a report begin, by the first of 1, 2, 3, 5 and 6 for the opening that applies.
+#[tactic(auto, unfolding(crate::specs::Opening::open_fault))]
+pub fn open_fault(shape: Shape, list: &[u32], table: &[u16]) -> Result<(), Refusal>
     ensures { result ≡ open_fault (listed shape list.now) table.now }
 {
-    let fault = shape_fault(shape, list);
-    if fault.number != 0 {
-        return fault;
-    }
+    shape_fault(shape, list)?;
     let d = shape.d as u16;
     let n = rules_in(shape, list) as u16;
     if table.len() != table_length(n, d) {
-        return refuse(BAD_TABLE_LENGTH);
+        return Err(refuse(Cause::BadTableLength));
     }
     if !opens(n, d, table) {
-        return refuse(BROKEN_TABLE);
+        return Err(refuse(Cause::BrokenTable));
     }
-    refuse(0)
+    Ok(())
 }

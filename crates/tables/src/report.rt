@@ -8,14 +8,13 @@ ghost use Rattle.tables.specs.Report.{size_of, part_fault, report_fault, report_
 use crate::opening::open_fault;
 use crate::read::{end_of, least_of, part_count, part_stands, start_of};
 use lists::shape::{Shape, rules_in};
-use ranges::refusal::{BROKEN_TABLE, NO_SUCH_PARTITION, Refusal, refuse};
+use ranges::refusal::{Cause, Refusal, refuse};
 
-// What a report answers.
-#[derive(Clone, Copy)]
-pub enum Part {
-    // How many places the partition has, and its smallest rule number as the table stores it.
-    Is { size: usize, least: usize },
-    Refused(Refusal),
+// What a report answers: how many places the partition has, and its smallest rule number as the table stores it.
+#[derive(Clone, Copy, PartialEq, Eq)]
+pub struct Part {
+    pub size: usize,
+    pub least: usize,
 }
 
 // Gives how many places partition q has, where its starts ascend.
@@ -26,48 +25,42 @@ fn part_size(n: u16, table: &[u16], q: u16) -> u16
     end_of(table, n, q) - start_of(table, n, q)
 }
 
-// Gives 6 where partition q is broken, its starts not ascending or going past n or its stored number n or more,
-// and else the refusal that refuses nothing.
-fn part_fault(n: u16, table: &[u16], q: u16) -> Refusal
+// Refuses by 6 where partition q is broken: its starts do not ascend or go past n, or its stored number is n or more.
+#[tactic(auto, unfolding(crate::specs::Report::part_fault))]
+fn part_fault(n: u16, table: &[u16], q: u16) -> Result<(), Refusal>
     ensures { result ≡ part_fault n (start_in n table.now) (least_in n table.now) q }
 {
     if !part_stands(table, n, n, q) {
-        return refuse(BROKEN_TABLE);
+        return Err(refuse(Cause::BrokenTable));
     }
     if n <= least_of(table, n, q) {
-        return refuse(BROKEN_TABLE);
+        return Err(refuse(Cause::BrokenTable));
     }
-    refuse(0)
+    Ok(())
 }
 
-// Gives the first of the refusals of a report that applies, 1, 2, 3, 5, 6 for the opening, 7, 6 for the partition, or
-// the one that refuses nothing.
-fn report_fault(shape: Shape, list: &[u32], table: &[u16], part: usize) -> Refusal
+// Refuses a report by the first that applies of 1, 2, 3, 5, 6 for the opening, 7, 6 for the partition.
+#[tactic(auto, unfolding(crate::specs::Report::report_fault))]
+fn report_fault(shape: Shape, list: &[u32], table: &[u16], part: usize) -> Result<(), Refusal>
     ensures { result ≡ report_fault (listed shape list.now) table.now part }
 {
-    let fault = open_fault(shape, list, table);
-    if fault.number != 0 {
-        return fault;
-    }
+    open_fault(shape, list, table)?;
     if part_count(table) as usize <= part {
-        return refuse(NO_SUCH_PARTITION);
+        return Err(refuse(Cause::NoSuchPartition));
     }
     part_fault(rules_in(shape, list) as u16, table, part as u16)
 }
 
 // Reports on a partition: gives its size in places and its smallest rule number as the table stores it; or the first of the
 // refusals 1, 2, 3, 5, 6 for the opening, 7, 6 for the partition that applies.
-pub fn report(shape: Shape, list: &[u32], table: &[u16], part: usize) -> Part
+pub fn report(shape: Shape, list: &[u32], table: &[u16], part: usize) -> Result<Part, Refusal>
     ensures { result ≡ report_of (listed shape list.now) table.now part }
 {
-    let fault = report_fault(shape, list, table, part);
-    if fault.number != 0 {
-        return Part::Refused(fault);
-    }
+    report_fault(shape, list, table, part)?;
     let n = rules_in(shape, list) as u16;
     let q = part as u16;
-    Part::Is {
+    Ok(Part {
         size: part_size(n, table, q) as usize,
         least: least_of(table, n, q) as usize,
-    }
+    })
 }

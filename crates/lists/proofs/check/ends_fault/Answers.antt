@@ -1,5 +1,5 @@
 -- The answers that the check does not find alone.
-use mathlib.Core.Path.{refl, sym, ◌∙◌}
+use mathlib.Core.Path.{refl}
 use Rattle.lists.proofs.Rules.{has_rule}
 use Rattle.lists.proofs.Search.{answered_more}
 use Rattle.lists.proofs.Voids.{bad_no, ends_4, ends_stands}
@@ -11,12 +11,12 @@ void_field-requires c = has_rule c.requires (rw c.rules_in-i-end.ensures at c.lo
 -- 4, at the first rule with a void field
 pub returns-in-Some : goal.returns-in-Some
 returns-in-Some c =
-    ends_4 _ _ c.loop-i.invariant (sym c.in-Some.is ∙ c.void_field.ensures) (rw c.rules_in-i-end.ensures at c.loop-i-test.true)
+    ends_4 _ _ c.loop-i.invariant c.in-Some.ensures (rw c.rules_in-i-end.ensures at c.loop-i-test.true)
 
 pub loop-i-preserved : goal.loop-i-preserved
 loop-i-preserved c =
     let n = c.rules_in-i-end.ensures in
-    answered_more c.loop-i.invariant (rw n at c.loop-i-test.true) refl (bad_no _ _ (sym c.in_default.is ∙ c.void_field.ensures))
+    answered_more c.loop-i.invariant (rw n at c.loop-i-test.true) refl (bad_no _ _ c.in_default.ensures)
 
 -- no rule has one
 pub returns : goal.returns

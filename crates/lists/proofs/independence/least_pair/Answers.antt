@@ -1,12 +1,11 @@
 -- The answers that the check does not find alone.
-use mathlib.Core.Path.{sym, ◌∙◌}
 use Rattle.lists.proofs.Meeting.{pair_both, pair_none}
 use Rattle.lists.proofs.independence.least_pair.Goals as goal
 
 -- a pair
 pub returns-in-Some : goal.returns-in-Some
 returns-in-Some c =
-    pair_both _ _ c.loop-i.invariant (sym c.in-Some.is ∙ c.partner_of.ensures) (rw c.rules_in-n.ensures at c.loop-i-test.true)
+    pair_both _ _ c.loop-i.invariant c.in-Some.ensures (rw c.rules_in-n.ensures at c.loop-i-test.true)
 
 -- no rule has a partner
 pub returns : goal.returns

@@ -1,28 +1,17 @@
--- `tables::report::report` meets its contract: what the report's refusal is, and else the partition's size and its stored number.
+-- `tables::report::report` meets its contract: the partition of a report that is not refused has a number below the most rules, and its
+-- starts ascend.
 -- Assumes nothing.
+use mathlib.Core.Path.{sym}
 use native.Mathlib.Omega.{arith}
-use Rattle.lists.proofs.Faults.{by-refused}
-use Rattle.tables.specs.declared.report.Part.TheVariants.{Refused}
-use Rattle.tables.proofs.Reporting.{reported_told, reported_few, reported_within, report_by_answer}
+use Rattle.tables.proofs.Reporting.{reported, reported_few, reported_within}
 use Rattle.tables.proofs.report.report.Goals as goal
-
--- refused
-pub returns-then-fault-ne0 : goal.returns-then-fault-ne0
-returns-then-fault-ne0 c = by-refused _ _ c.report_fault-fault.ensures Refused _ c.if-fault-ne0.true
 
 pub overflow_cast-n : goal.overflow_cast-n
 overflow_cast-n c =
-    omega (arith, c.rules_in-n.ensures, (reported_told _ _ _ _ c.report_fault-fault.ensures c.if-fault-ne0.false).opens.shape_stands.few_rules)
+    omega (arith, c.rules_in-n.ensures, (reported _ _ _ (sym c.in_ok-report_fault.ensures)).opens.shape_stands.few_rules)
 
 pub overflow_cast-q : goal.overflow_cast-q
-overflow_cast-q c =
-    omega (arith, reported_few _ _ _ _ c.report_fault-fault.ensures c.if-fault-ne0.false)
+overflow_cast-q c = omega (arith, reported_few _ _ _ (sym c.in_ok-report_fault.ensures))
 
 pub part_size-requires : goal.part_size-requires
-part_size-requires c =
-    reported_within _ _ _ _ c.report_fault-fault.ensures c.if-fault-ne0.false c.rules_in-n.ensures
-
--- its size and its stored number
-pub returns : goal.returns
-returns c =
-    report_by_answer _ _ _ _ c.report_fault-fault.ensures c.if-fault-ne0.false c.rules_in-n.ensures c.part_size.ensures c.least_of.ensures
+part_size-requires c = reported_within _ _ _ (sym c.in_ok-report_fault.ensures) c.rules_in-n.ensures
