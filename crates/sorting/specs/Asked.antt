@@ -5,6 +5,7 @@ use Rattle.std.specs.Prelude.{ℕ, ◌≤◌, ◌<◌, Bool, false, not, List, �
 use Rattle.lists.specs.Rules.{Rules, fields_of, rules_in, Shaped}
 use Rattle.lists.specs.Faults.{list_fault}
 use Rattle.ranges.specs.Numbers.{all, tab}
+use Rattle.ranges.specs.Refusals.{none}
 use Rattle.lists.specs.Limits.{most_rules}
 use Rattle.sorting.specs.FirstFit.{Choice, part_of, parts}
 use Rattle.tables.specs.Layout.{TableFor}
@@ -23,7 +24,7 @@ pub record Numbered (R : Rules) (run : List ℕ) : Type 0 where
 
 -- a list that meets none of 1 to 4, and a run that is a choice of partitions for it
 pub record Dealt (R : Rules) (run : List ℕ) : Type 0 where
-  pub no_fault : (list_fault R).number ≡ 0
+  pub no_fault : list_fault R ≡ none
   pub one_each : length run ≡ rules_in R
   pub choice : Choice R run (parts run (rules_in R))
 

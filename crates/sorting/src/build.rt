@@ -8,23 +8,21 @@ use crate::choose::first_fit;
 use crate::lay_out::{sort_out, write_table};
 use lists::check::list_fault;
 use lists::shape::{MOST_RULES, Shape, rules_in};
-use ranges::refusal::{BAD_TABLE_LENGTH, Count, Refusal, refuse};
+use ranges::refusal::{Cause, Refusal, refuse};
 use tables::layout::table_length;
 
-// Gives the first of the refusals 1, 2, 3, 4 and 5 that applies to a list and a table, or the one that refuses nothing.
-pub fn build_fault(shape: Shape, list: &[u32], table: &[u16]) -> Refusal
+// Refuses a list and a table by the first of 1, 2, 3, 4 and 5 that applies.
+#[tactic(auto, unfolding(crate::specs::Build::build_fault))]
+pub fn build_fault(shape: Shape, list: &[u32], table: &[u16]) -> Result<(), Refusal>
     ensures { result ≡ build_fault (listed shape list.now) table.now }
 {
-    let fault = list_fault(shape, list);
-    if fault.number != 0 {
-        return fault;
-    }
+    list_fault(shape, list)?;
     let d = shape.d as u16;
     let n = rules_in(shape, list) as u16;
     if table.len() != table_length(n, d) {
-        return refuse(BAD_TABLE_LENGTH);
+        return Err(refuse(Cause::BadTableLength));
     }
-    refuse(0)
+    Ok(())
 }
 
 // Chooses partitions by first fit and writes every number of the table with them, for a list and a table that are not refused; returns
@@ -44,12 +42,9 @@ fn write_built(shape: Shape, list: &[u32], table: &mut [u16]) -> usize
 
 // Builds the table of a list: writes every number of it and gives b, the number of partitions; or gives the first of the
 // refusals 1, 2, 3, 4 and 5 that applies, and leaves the table as lent.
-pub fn build(shape: Shape, list: &[u32], table: &mut [u16]) -> Count
+pub fn build(shape: Shape, list: &[u32], table: &mut [u16]) -> Result<usize, Refusal>
     ensures { Built (listed shape list.now) table.old table.new result }
 {
-    let fault = build_fault(shape, list, table);
-    if fault.number != 0 {
-        return Count::Refused(fault);
-    }
-    Count::Is(write_built(shape, list, table))
+    build_fault(shape, list, table)?;
+    Ok(write_built(shape, list, table))
 }

@@ -12,7 +12,7 @@ use crate::run_fault::length_fault;
 use lists::check::list_fault;
 use lists::shape::{MOST_RULES, Shape};
 use ordering::compare::rules_clash;
-use ranges::refusal::{Count, Refusal};
+use ranges::refusal::Refusal;
 
 // Gives the stamp of rule j's partition, which was old, once rule i is held against rule j. Where the partition is
 // taken already, the two rules are not compared.
@@ -41,7 +41,8 @@ fn mark(shape: Shape, list: &[u32], run: &[u16], i: u16, stamps: &mut [u16; MOST
     }
 }
 
-// Gives the lowest of the partitions 0 to i that does not have rule i's stamp, and i + 1 where there is none.
+// Gives the lowest of the partitions 0 to i that does not have rule i's stamp, and i + 1 where there is none. No `Option`: the i rules
+// before leave one of the i + 1 partitions free, so none would be an arm that no call reaches.
 fn first_free(i: u16, stamps: &[u16; MOST_RULES]) -> u16
     requires { i < most_rules }
     ensures { result ≡ unstamped i stamps.now }
@@ -71,25 +72,20 @@ pub(crate) fn first_fit(shape: Shape, list: &[u32], run: &mut [u16]) -> u16
     parts_in(run)
 }
 
-// Gives the first of the refusals 1, 2, 3, 4 and 15 that applies to a list and a run, or the one that refuses nothing.
-fn choose_fault(shape: Shape, list: &[u32], run: &[u16]) -> Refusal
+// Refuses a list and a run by the first of 1, 2, 3, 4 and 15 that applies.
+#[tactic(auto, unfolding(crate::specs::Brought::choose_fault))]
+fn choose_fault(shape: Shape, list: &[u32], run: &[u16]) -> Result<(), Refusal>
     ensures { result ≡ choose_fault (listed shape list.now) run.now }
 {
-    let fault = list_fault(shape, list);
-    if fault.number != 0 {
-        return fault;
-    }
+    list_fault(shape, list)?;
     length_fault(shape, list, run)
 }
 
 // Chooses partitions for a list: writes each rule's first-fit partition number into the run and gives b, how many
 // partitions that opens; or gives the first of the refusals 1, 2, 3, 4 and 15 that applies, and leaves the run as lent.
-pub fn choose(shape: Shape, list: &[u32], run: &mut [u16]) -> Count
+pub fn choose(shape: Shape, list: &[u32], run: &mut [u16]) -> Result<usize, Refusal>
     ensures { ChosenInto (listed shape list.now) run.old run.new result }
 {
-    let fault = choose_fault(shape, list, run);
-    if fault.number != 0 {
-        return Count::Refused(fault);
-    }
-    Count::Is(first_fit(shape, list, run) as usize)
+    choose_fault(shape, list, run)?;
+    Ok(first_fit(shape, list, run) as usize)
 }

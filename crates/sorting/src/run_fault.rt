@@ -1,6 +1,7 @@
 // The refusals of a run of partition numbers that someone brings: 15, 16, 17 and 18.
 ghost use Rattle.std.specs.Prelude.{◌≡◌, false, ◌≤◌, ◌<◌, length, get_or};
 ghost use Rattle.ranges.specs.Numbers.{all};
+ghost use Rattle.ranges.specs.Refusals.{none};
 ghost use Rattle.lists.specs.Limits.{most_rules};
 ghost use Rattle.lists.specs.Rules.{listed, rules_in};
 ghost use Rattle.lists.specs.Faults.{list_fault};
@@ -11,18 +12,17 @@ ghost use Rattle.sorting.specs.Brought.{length_fault, numbers_fit, no_gap, is_ap
 use crate::count_parts::parts_in;
 use lists::shape::{MOST_RULES, Shape, rules_in};
 use ordering::compare::rules_clash;
-use ranges::refusal::{
-    BAD_PARTITION_NUMBER, BAD_RUN_LENGTH, CLASH_IN_PARTITION, EMPTY_PARTITION, Refusal, refuse,
-};
+use ranges::refusal::{Cause, Refusal, refuse};
 
-// Gives refusal 15 where a run does not have one number for each rule of the list, else the refusal that refuses nothing.
-pub(crate) fn length_fault(shape: Shape, list: &[u32], run: &[u16]) -> Refusal
+// Refuses a run by 15 where it does not have one number for each rule of the list.
+#[tactic(auto, unfolding(crate::specs::Brought::length_fault))]
+pub(crate) fn length_fault(shape: Shape, list: &[u32], run: &[u16]) -> Result<(), Refusal>
     ensures { result ≡ length_fault (listed shape list.now) run.now }
 {
     if run.len() != rules_in(shape, list) {
-        return refuse(BAD_RUN_LENGTH);
+        return Err(refuse(Cause::BadRunLength));
     }
-    refuse(0)
+    Ok(())
 }
 
 // Says whether each number of a run is below its length.
@@ -101,24 +101,21 @@ fn no_clash(shape: Shape, list: &[u32], run: &[u16]) -> bool
     true
 }
 
-// Gives the first of the refusals 15, 16, 17 and 18 that applies to a run, for a list that meets none of 1 to 4, or the one
-// that refuses nothing.
-pub(crate) fn run_fault(shape: Shape, list: &[u32], run: &[u16]) -> Refusal
-    requires { (list_fault (listed shape list.now)).number ≡ 0 }
+// Refuses a run by the first of 15, 16, 17 and 18 that applies, for a list that meets none of 1 to 4.
+#[tactic(auto, unfolding(crate::specs::Brought::run_fault))]
+pub(crate) fn run_fault(shape: Shape, list: &[u32], run: &[u16]) -> Result<(), Refusal>
+    requires { list_fault (listed shape list.now) ≡ none }
     ensures { result ≡ run_fault (listed shape list.now) run.now }
 {
-    let fault = length_fault(shape, list, run);
-    if fault.number != 0 {
-        return fault;
-    }
+    length_fault(shape, list, run)?;
     if !numbers_fit(run) {
-        return refuse(BAD_PARTITION_NUMBER);
+        return Err(refuse(Cause::BadPartitionNumber));
     }
     if !no_gap(run) {
-        return refuse(EMPTY_PARTITION);
+        return Err(refuse(Cause::EmptyPartition));
     }
     if !no_clash(shape, list, run) {
-        return refuse(CLASH_IN_PARTITION);
+        return Err(refuse(Cause::ClashInPartition));
     }
-    refuse(0)
+    Ok(())
 }

@@ -2,7 +2,7 @@
 --     all_told                           what `all` answers of a list
 --     fit_all                            16: each number is below n
 --     marked_all, parts_few, gap_told    17: the numbers below b have a mark each
---     apart_other, apart_same, clash-all            18: two rules of one partition
+--     apart_same, clash-all                         18: two rules of one partition
 -- Assumes nothing.
 use Prim.Native.Nat.{ℕ, ◌≤◌, ◌<◌}
 use mathlib.Core.Bool.{Bool, true, false, not}
@@ -13,7 +13,7 @@ use native.Mathlib.Omega.{arith}
 use lib.ListN.{length, get_or, take}
 use lib.Seq.{get_or-take}
 use Rattle.std.specs.Prelude.{IsTrue}
-use borrow.Author.Tests.{lt-ltb, ltb-true, eq-eqb, ne_eqb}
+use borrow.Author.Tests.{lt-ltb, ltb-true, eq-eqb}
 use Rattle.ranges.specs.Numbers.{all}
 use Rattle.ranges.proofs.Numbers.{all_yes, all_at, all_same}
 use Rattle.lists.specs.Limits.{most_rules}
@@ -57,9 +57,6 @@ module _ {run : List ℕ} (h : Fitting run) {b : ℕ} (is_b : b ≡ parts run (l
 
 -- ---- 18
 module _ (R : Rules) (run : List ℕ) (i j : ℕ) where
-  pub apart_other : (get_or run j 0 ≡ get_or run i 0 → ⊥) → true ≡ is_apart R run i j
-  apart_other ne = rw (ne_eqb (part_of run j) (part_of run i) ne)
-
   pub apart_same : get_or run j 0 ≡ get_or run i 0 → {r : Bool} → r ≡ clash R j i → not r ≡ is_apart R run i j
   apart_same e is_r = rw (eq-eqb (part_of run j) (part_of run i) e, is_r)
 

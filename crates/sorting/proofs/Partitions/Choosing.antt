@@ -2,7 +2,7 @@
 -- fit's, and no stamp is later than that of the rules taken. The next rule gets the lowest partition without its stamp (`Stamps.antt`).
 --     Choosing, choosing_none, choosing_more      the first i rules are taken
 --     choosing_marks                              rule i may be held against the rules before it
---     choosing_numbers, choosing_end              every rule is taken, and written to the lent run
+--     choosing_numbers                            every rule is taken, and written to the lent run
 -- Assumes nothing.
 use Prim.Native.Nat.{ℕ, ◌+◌, ◌≤◌, ◌<◌}
 use mathlib.Core.Bool.{Bool, true, false}
@@ -16,7 +16,7 @@ use lib.ListN.{length, get_or, set, take, replicate, length-set, length-replicat
 use lib.Seq.{take-suc-set, length-take-le}
 use Rattle.lists.specs.Limits.{most_rules}
 use Rattle.lists.specs.Rules.{Rules, rules_in, Shaped}
-use Rattle.sorting.specs.FirstFit.{part_of, fit_of, first_fit, parts, Chosen}
+use Rattle.sorting.specs.FirstFit.{part_of, fit_of, first_fit}
 use Rattle.sorting.specs.Marks.{stamped, unstamped, Marking}
 use Rattle.sorting.proofs.Partitions.FirstFits.{first_fit_more, first_fit-length, first_fit_low}
 use Rattle.sorting.proofs.Partitions.Stamps.{stamped-fit, stamped_long, stamped-fresh}
@@ -95,6 +95,3 @@ module _ {R : Rules} {run stamps : List ℕ} {i n : ℕ} (s : Shaped R) (h : Cho
   choosing_numbers j l =
       let low : part_of after j ≤ j = rw written (first_fit_low R (rules_in R) j (omega (arith, written_long))) in
       omega (arith, s.few_rules, written_long)
-
-  pub choosing_end : {b : ℕ} → b ≡ parts after (length after) → Chosen R after b
-  choosing_end {b} is_b = record { numbers = written; opened = is_b ∙ ap (parts after) written_long ∙ ap (λ r. parts r (rules_in R)) written }

@@ -1,9 +1,9 @@
 -- Marks of numbers that were seen (`specs/Asked.antt`, `Seen`): one a number, true where it was.
 --     unseen                         none of the first k numbers is q
---     seen_none, seen_more, seen_end      no number yet, one more, all of a run
+--     seen_none, seen_more           no number yet, one more
 --     seen-fresh, seen-before        what a mark says
 -- Assumes nothing.
-use Prim.Native.Nat.{ℕ, ◌+◌, ◌≤◌, ◌<◌}
+use Prim.Native.Nat.{ℕ, ◌+◌, ◌<◌}
 use mathlib.Core.Bool.{Bool, true, false, not}
 use mathlib.Core.List.{List}
 use mathlib.Core.Path.{◌≡◌, refl, sym, ap, ◌∙◌, subst}
@@ -53,9 +53,6 @@ module _ {g : ℕ → ℕ} {k : ℕ} {marks : List Bool} (h : Seen g k marks) wh
           let there : get_or (set marks i true) q false ≡ get_or marks q false = get_or-set_other marks i q true false (λ same. other (sym same)) in
           let unlike : eqb (g k) q ≡ false = ap (λ x. eqb x q) (sym is_i) ∙ e in
           rw (there, one_more g k q, unlike, h.marked q lt) (ap not (sym (and-true (unseen g k q))))
-
-  pub seen_end : {n : ℕ} → k ≤ n → n ≤ k → Seen g n marks
-  seen_end {n} le ge = let is : k ≡ n = omega arith in subst (λ m. Seen g m marks) is h
 
   -- what a mark says of the number i
   module _ {i : ℕ} (few : i < most_rules) where

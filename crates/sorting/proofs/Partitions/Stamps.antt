@@ -1,6 +1,6 @@
 -- First fit by stamps (`specs/Marks.antt`): holding rule i against the rules before it, one after the other, stamps the partitions
 -- that are not free for it; so the lowest partition without its stamp is the one that first fit gives it.
---     mark_old, mark_clash, mark_keep, part_few               the stamp of one partition
+--     mark_clash, mark_keep, part_few                         the stamp of one partition
 --     Stamping, stamping_none, stamping_more, stamping_end    the stamps once rule i is held against the first j rules
 --     stamped-fit, stamped_long, stamped-fresh                it is first fit's; and the stamps are ready for the next rule
 -- Assumes nothing.
@@ -24,9 +24,6 @@ use Rattle.sorting.specs.Marks.{stamp_of, mark_of, stamped, unstamped, Marking}
 
 -- ---- the stamp of one partition
 module _ (R : Rules) (i j old : ℕ) where
-  pub mark_old : old ≡ i + 1 → old ≡ mark_of R i j old
-  mark_old e = rw (eq-eqb old (i + 1) e)
-
   pub mark_clash : (old ≡ i + 1 → ⊥) → clash R j i ≡ true → i + 1 ≡ mark_of R i j old
   mark_clash ne e = rw (ne_eqb old (i + 1) ne, e)
 

@@ -1,5 +1,5 @@
 -- The answers that the check does not find alone.
-use Rattle.sorting.proofs.Partitions.Choosing.{choosing_none, choosing_marks, choosing_more, choosing_numbers, choosing_end}
+use Rattle.sorting.proofs.Partitions.Choosing.{choosing_none, choosing_marks, choosing_more, choosing_numbers}
 use native.Mathlib.Omega.{arith}
 use Rattle.sorting.proofs.choose.first_fit.Goals as goal
 
@@ -17,7 +17,3 @@ loop-i-preserved c =
 pub parts_in-requires : goal.parts_in-requires
 parts_in-requires c =
     choosing_numbers c.requires.shape_stands c.loop-i.invariant (omega arith) c.requires.one_each c.copy_from_slice.ensures.after
-
-pub returns : goal.returns
-returns c =
-    choosing_end c.requires.shape_stands c.loop-i.invariant (omega arith) c.requires.one_each c.copy_from_slice.ensures.after c.parts_in.ensures
