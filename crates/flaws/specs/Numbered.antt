@@ -1,7 +1,8 @@
 -- The number that 01 refuses a flaw of a rules file by.
 -- Assumes nothing: these are definitions.
 use Rattle.std.specs.Prelude.{ℕ, Option, None, Some}
-use Rattle.ranges.specs.Refusals.{number_of, BadFields, BadLine, TooManyRules as Many, LowAboveHigh as Void}
+use Rattle.ranges.specs.Refusals.{number_of}
+use Rattle.ranges.specs.declared.refusal.Cause.TheVariants.{BadFields, BadLine, TooManyRules as Many, LowAboveHigh as Void}
 use Rattle.flaws.specs.declared.flaw.Flaw.{Flaw}
 use Rattle.flaws.specs.declared.flaw.Flaw.TheVariants.{NoLine, NotNumber, LoneFeed, OtherWidth, OddWidth, TooWide, TooManyRules, LowAboveHigh}
 

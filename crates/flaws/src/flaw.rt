@@ -2,7 +2,7 @@
 ghost use Rattle.std.specs.Prelude.{◌≡◌};
 ghost use Rattle.flaws.specs.Numbered.{flaw_number};
 
-use ranges::refusal::{BAD_FIELDS, BAD_LINE, LOW_ABOVE_HIGH, TOO_MANY_RULES};
+use ranges::refusal::Cause;
 
 // The first flaw of a rules file. Lines and cells count from 1, cells as the reader counts them; rules and fields from
 // 0, as 01 has them.
@@ -46,14 +46,12 @@ pub enum Flaw {
 pub fn flaw_number(flaw: Flaw) -> u32
     ensures { result ≡ flaw_number flaw }
 {
-    match flaw {
-        Flaw::NoLine => BAD_FIELDS,
-        Flaw::NotNumber { .. } => BAD_LINE,
-        Flaw::LoneFeed => BAD_LINE,
-        Flaw::OtherWidth { .. } => BAD_LINE,
-        Flaw::OddWidth { .. } => BAD_LINE,
-        Flaw::TooWide { .. } => BAD_FIELDS,
-        Flaw::TooManyRules => TOO_MANY_RULES,
-        Flaw::LowAboveHigh { .. } => LOW_ABOVE_HIGH,
-    }
+    let cause = match flaw {
+        Flaw::NoLine | Flaw::TooWide { .. } => Cause::BadFields,
+        Flaw::NotNumber { .. } | Flaw::LoneFeed | Flaw::OtherWidth { .. } | Flaw::OddWidth { .. } =>
+            Cause::BadLine,
+        Flaw::TooManyRules => Cause::TooManyRules,
+        Flaw::LowAboveHigh { .. } => Cause::LowAboveHigh,
+    };
+    cause.number()
 }

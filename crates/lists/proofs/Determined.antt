@@ -36,7 +36,7 @@ use Rattle.lists.proofs.independence.independence.Reads as independence_reads
 pub offset_of_one : OneAnswer 0 offset_of_kinds.ps offset_of_kinds.r offset_of_reads.Learnt
 offset_of_one κs a x y e g p q = p ∙ sym q
 
-pub rules_in_one : OneAnswer 1 rules_in_kinds.ps rules_in_kinds.r rules_in_reads.Learnt
+pub rules_in_one : OneAnswer 2 rules_in_kinds.ps rules_in_kinds.r rules_in_reads.Learnt
 rules_in_one κs a x y e g p q = p ∙ sym q
 
 pub shape_of_one : OneAnswer 0 shape_of_kinds.ps shape_of_kinds.r shape_of_reads.Learnt
@@ -48,29 +48,29 @@ is_date_one κs a x y e g p q = p ∙ sym q
 pub field_range_one : OneAnswer 0 field_range_kinds.ps field_range_kinds.r field_range_reads.Learnt
 field_range_one κs a x y e g p q = p ∙ sym q
 
-pub in_list_one : OneAnswer 1 in_list_kinds.ps in_list_kinds.r in_list_reads.Learnt
+pub in_list_one : OneAnswer 2 in_list_kinds.ps in_list_kinds.r in_list_reads.Learnt
 in_list_one κs a x y e g p q = p ∙ sym q
 
-pub room_fault_one : OneAnswer 1 room_fault_kinds.ps room_fault_kinds.r room_fault_reads.Learnt
+pub room_fault_one : OneAnswer 2 room_fault_kinds.ps room_fault_kinds.r room_fault_reads.Learnt
 room_fault_one κs a x y e g p q = p ∙ sym q
 
-pub shape_fault_one : OneAnswer 1 shape_fault_kinds.ps shape_fault_kinds.r shape_fault_reads.Learnt
+pub shape_fault_one : OneAnswer 2 shape_fault_kinds.ps shape_fault_kinds.r shape_fault_reads.Learnt
 shape_fault_one κs a x y e g p q = p ∙ sym q
 
-pub list_fault_one : OneAnswer 1 list_fault_kinds.ps list_fault_kinds.r list_fault_reads.Learnt
+pub list_fault_one : OneAnswer 2 list_fault_kinds.ps list_fault_kinds.r list_fault_reads.Learnt
 list_fault_one κs a x y e g p q = p ∙ sym q
 
-pub check_list_one : OneAnswer 1 check_list_kinds.ps check_list_kinds.r check_list_reads.Learnt
+pub check_list_one : OneAnswer 2 check_list_kinds.ps check_list_kinds.r check_list_reads.Learnt
 check_list_one κs a x y e g p q = p ∙ sym q
 
-pub rule_fits_one : OneAnswer 1 rule_fits_kinds.ps rule_fits_kinds.r rule_fits_reads.Learnt
+pub rule_fits_one : OneAnswer 2 rule_fits_kinds.ps rule_fits_kinds.r rule_fits_reads.Learnt
 rule_fits_one κs a x y e g p q = p ∙ sym q
 
-pub rule_edge_one : OneAnswer 1 rule_edge_kinds.ps rule_edge_kinds.r rule_edge_reads.Learnt
+pub rule_edge_one : OneAnswer 2 rule_edge_kinds.ps rule_edge_kinds.r rule_edge_reads.Learnt
 rule_edge_one κs a x y e g p q = p ∙ sym q
 
-pub plain_scan_one : OneAnswer 1 plain_scan_kinds.ps plain_scan_kinds.r plain_scan_reads.Learnt
+pub plain_scan_one : OneAnswer 2 plain_scan_kinds.ps plain_scan_kinds.r plain_scan_reads.Learnt
 plain_scan_one κs a x y e g p q = p ∙ sym q
 
-pub independence_one : OneAnswer 1 independence_kinds.ps independence_kinds.r independence_reads.Learnt
+pub independence_one : OneAnswer 2 independence_kinds.ps independence_kinds.r independence_reads.Learnt
 independence_one κs a x y e g p q = p ∙ sym q

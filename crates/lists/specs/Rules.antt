@@ -8,6 +8,7 @@ use Rattle.ranges.specs.Numbers.{◌and◌, bit, tab}
 use Rattle.ranges.specs.Sides.{past_of, void_of}
 use Rattle.ranges.specs.declared.side.Range.{Range}
 use Rattle.lists.specs.declared.shape.Shape.{Shape}
+use Rattle.lists.specs.declared.shape.RuleList.{RuleList}
 use Rattle.lists.specs.Limits.{most_fields, most_rules, full_length}
 
 -- the shape of a list of d fields a rule, none of them a date
@@ -30,6 +31,10 @@ pub record Rules : Type 0 where
 
 abbrev pub listed : Shape → List ℕ → Rules
 listed s l = record { d = s.d; dates = dates_in s; numbers = l }
+
+-- the rules of a list as it is lent
+abbrev pub lent : RuleList → Rules
+lent l = listed l.shape l.numbers.now
 
 -- d, the number of fields
 abbrev pub fields_of : Rules → ℕ

@@ -1,10 +1,10 @@
 // A rule's range: made of its low and its high, and read off the list.
 ghost use Rattle.std.specs.Prelude.{◌≡◌};
 ghost use Rattle.ranges.specs.Sides.{range_of};
-ghost use Rattle.lists.specs.Rules.{flag_of, listed, range_at};
+ghost use Rattle.lists.specs.Rules.{flag_of, lent, range_at};
 ghost use Rattle.lists.specs.Asked.{HasField};
 
-use crate::shape::{Shape, is_date, offset_of};
+use crate::shape::{RuleList, Shape, is_date, offset_of};
 use ranges::side::{Range, closed, range_of};
 
 // Makes the range that a rule has in field f from its low and its high: one of dates where the shape says that the field is
@@ -27,10 +27,10 @@ fn once_asked(shape: Shape, f: u32, low: u32, high: u32) -> Range
 }
 
 // Gives the range of rule i in field f.
-pub(crate) fn range_at(shape: Shape, list: &[u32], i: u16, f: u16) -> Range
-    requires { HasField (listed shape list.now) i f }
-    ensures { result ≡ range_at (listed shape list.now) i f }
+pub(crate) fn range_at(list: &RuleList, i: u16, f: u16) -> Range
+    requires { HasField (lent list.now) i f }
+    ensures { result ≡ range_at (lent list.now) i f }
 {
-    let at = offset_of(shape.d as u16, i, f);
-    once_asked(shape, f as u32, list[at], list[at + 1])
+    let at = offset_of(list.shape.d as u16, i, f);
+    once_asked(list.shape, f as u32, list.numbers[at], list.numbers[at + 1])
 }

@@ -1,7 +1,7 @@
 // The shape of a list: how many fields a rule has, which of them are dates, where its numbers stand, and the refusals of a
 // list whose shape is wrong.
 ghost use Rattle.std.specs.Prelude.{◌≡◌};
-ghost use Rattle.lists.specs.Rules.{shape_of, flag_of, listed, rules_in, offset_of};
+ghost use Rattle.lists.specs.Rules.{shape_of, flag_of, lent, rules_in, offset_of};
 ghost use Rattle.lists.specs.Faults.{in_list, room_fault, shape_fault};
 
 use ranges::refusal::{Cause, Refusal, refuse};
@@ -21,6 +21,13 @@ pub const MOST_NUMBERS: usize = MOST_RULES * MOST_FIELDS * 2;
 pub struct Shape {
     pub d: usize,
     pub dates: u32,
+}
+
+// A list of rules as it is lent: its numbers, and what they mean.
+#[derive(Clone, Copy)]
+pub struct RuleList<'a> {
+    pub shape: Shape,
+    pub numbers: &'a [u32],
 }
 
 // Makes the shape of a list of d fields a rule, whatever d is, none of them a date.
@@ -48,61 +55,61 @@ pub fn offset_of(d: u16, i: u16, f: u16) -> usize
 }
 
 // Gives n, the number of rules of a list: its length over 2d, rounded down, and 0 where d is 0.
-pub fn rules_in(shape: Shape, list: &[u32]) -> usize
-    ensures { result ≡ rules_in (listed shape list.now) }
+pub fn rules_in(list: &RuleList) -> usize
+    ensures { result ≡ rules_in (lent list.now) }
 {
-    let d = shape.d;
+    let d = list.shape.d;
     if d == 0 {
         return 0;
     }
-    list.len() / 2 / d
+    list.numbers.len() / 2 / d
 }
 
 // Says whether a list has a rule of this number, whose fields are 1 to 8: its last field ends within the list.
-pub fn in_list(shape: Shape, list: &[u32], rule: u16) -> bool
-    ensures { result ≡ in_list (listed shape list.now) rule }
+pub fn in_list(list: &RuleList, rule: u16) -> bool
+    ensures { result ≡ in_list (lent list.now) rule }
 {
-    let d = shape.d;
+    let d = list.shape.d;
     if d < 1 {
         return false;
     }
     if MOST_FIELDS < d {
         return false;
     }
-    offset_of(d as u16, rule, d as u16) <= list.len()
+    offset_of(d as u16, rule, d as u16) <= list.numbers.len()
 }
 
 // Refuses a list that is lent in full, with room for the most rules, by the first of 1 and 2 that applies: 2 is any other length
 // than the full one.
-pub fn room_fault(shape: Shape, list: &[u32]) -> Result<(), Refusal>
-    ensures { result ≡ room_fault (listed shape list.now) }
+pub fn room_fault(list: &RuleList) -> Result<(), Refusal>
+    ensures { result ≡ room_fault (lent list.now) }
 {
-    let d = shape.d;
+    let d = list.shape.d;
     if d < 1 {
         return Err(refuse(Cause::BadFields));
     }
     if MOST_FIELDS < d {
         return Err(refuse(Cause::BadFields));
     }
-    if list.len() != MOST_RULES * d * 2 {
+    if list.numbers.len() != MOST_RULES * d * 2 {
         return Err(refuse(Cause::BadLength));
     }
     Ok(())
 }
 
 // Refuses a list's shape by the first of 1, 2 and 3 that applies.
-pub fn shape_fault(shape: Shape, list: &[u32]) -> Result<(), Refusal>
-    ensures { result ≡ shape_fault (listed shape list.now) }
+pub fn shape_fault(list: &RuleList) -> Result<(), Refusal>
+    ensures { result ≡ shape_fault (lent list.now) }
 {
-    let d = shape.d;
+    let d = list.shape.d;
     if d < 1 {
         return Err(refuse(Cause::BadFields));
     }
     if MOST_FIELDS < d {
         return Err(refuse(Cause::BadFields));
     }
-    let n = rules_in(shape, list);
-    if n * d * 2 != list.len() {
+    let n = rules_in(list);
+    if n * d * 2 != list.numbers.len() {
         return Err(refuse(Cause::BadLength));
     }
     if MOST_RULES < n {

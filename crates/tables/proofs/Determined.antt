@@ -79,8 +79,8 @@ run_to_one κs a x y e g p q = p ∙ sym q
 pub part_stands_one : OneAnswer 1 part_stands_kinds.ps part_stands_kinds.r part_stands_reads.Learnt
 part_stands_one κs a x y e g p q = p ∙ sym q
 
-pub open_fault_one : OneAnswer 2 open_fault_kinds.ps open_fault_kinds.r open_fault_reads.Learnt
+pub open_fault_one : OneAnswer 3 open_fault_kinds.ps open_fault_kinds.r open_fault_reads.Learnt
 open_fault_one κs a x y e g p q = p ∙ sym q
 
-pub report_one : OneAnswer 2 report_kinds.ps report_kinds.r report_reads.Learnt
+pub report_one : OneAnswer 3 report_kinds.ps report_kinds.r report_reads.Learnt
 report_one κs a x y e g p q = p ∙ sym q

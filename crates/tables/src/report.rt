@@ -1,13 +1,13 @@
 // The report on a partition: its size, and its smallest rule number as it is stored.
 ghost use Rattle.std.specs.Prelude.{◌≡◌};
-ghost use Rattle.lists.specs.Rules.{listed};
+ghost use Rattle.lists.specs.Rules.{lent};
 ghost use Rattle.tables.specs.Layout.{start_in, least_in};
 ghost use Rattle.tables.specs.Asked.{PartWithin};
 ghost use Rattle.tables.specs.Report.{size_of, part_fault, report_fault, report_of};
 
 use crate::opening::open_fault;
 use crate::read::{end_of, least_of, part_count, part_stands, start_of};
-use lists::shape::{Shape, rules_in};
+use lists::shape::{RuleList, rules_in};
 use ranges::refusal::{Cause, Refusal, refuse};
 
 // What a report answers: how many places the partition has, and its smallest rule number as the table stores it.
@@ -41,23 +41,23 @@ fn part_fault(n: u16, table: &[u16], q: u16) -> Result<(), Refusal>
 
 // Refuses a report by the first that applies of 1, 2, 3, 5, 6 for the opening, 7, 6 for the partition.
 #[tactic(auto, unfolding(crate::specs::Report::report_fault))]
-fn report_fault(shape: Shape, list: &[u32], table: &[u16], part: usize) -> Result<(), Refusal>
-    ensures { result ≡ report_fault (listed shape list.now) table.now part }
+fn report_fault(list: &RuleList, table: &[u16], part: usize) -> Result<(), Refusal>
+    ensures { result ≡ report_fault (lent list.now) table.now part }
 {
-    open_fault(shape, list, table)?;
+    open_fault(list, table)?;
     if part_count(table) as usize <= part {
         return Err(refuse(Cause::NoSuchPartition));
     }
-    part_fault(rules_in(shape, list) as u16, table, part as u16)
+    part_fault(rules_in(list) as u16, table, part as u16)
 }
 
 // Reports on a partition: gives its size in places and its smallest rule number as the table stores it; or the first of the
 // refusals 1, 2, 3, 5, 6 for the opening, 7, 6 for the partition that applies.
-pub fn report(shape: Shape, list: &[u32], table: &[u16], part: usize) -> Result<Part, Refusal>
-    ensures { result ≡ report_of (listed shape list.now) table.now part }
+pub fn report(list: &RuleList, table: &[u16], part: usize) -> Result<Part, Refusal>
+    ensures { result ≡ report_of (lent list.now) table.now part }
 {
-    report_fault(shape, list, table, part)?;
-    let n = rules_in(shape, list) as u16;
+    report_fault(list, table, part)?;
+    let n = rules_in(list) as u16;
     let q = part as u16;
     Ok(Part {
         size: part_size(n, table, q) as usize,

@@ -37,10 +37,10 @@ impl Out<'_> {
         ensures { Puts self.old (decimal_of n) self.new }
     {
         if n < 10 {
-            self.byte(b'0' + n as u8)
+            self.byte(b'0' + n as u8);
         } else {
             self.number(n / 10);
-            self.byte(b'0' + (n % 10) as u8)
+            self.byte(b'0' + (n % 10) as u8);
         }
     }
 }

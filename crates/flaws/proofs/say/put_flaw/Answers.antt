@@ -3,4 +3,4 @@
 use Rattle.flaws.proofs.say.put_flaw.Goals as goal
 
 pub returns-in-NoLine : goal.returns-in-NoLine
-returns-in-NoLine c = rw c.in-NoLine.is c.put_text.ensures
+returns-in-NoLine c = rw c.in-NoLine.is c.text.ensures

@@ -1,10 +1,10 @@
 -- `flaws::say::put_plural` meets its contract.
 -- Assumes nothing.
-use native.Mathlib.Omega.{arith}
-use Rattle.text.proofs.Puts.{put_then}
+use borrow.Author.Tests.{ne_eqb}
+use Rattle.text.proofs.Puts.{puts_then}
 use Rattle.flaws.specs.Said.{plural_said}
 use Rattle.flaws.proofs.say.put_plural.Goals as goal
 
-pub returns : goal.returns
+pub returns-then-n-ne1 : goal.returns-then-n-ne1
 unfolding plural_said
-returns c = grind (arith, put_then c.put_text-a.ensures c.put_text.ensures)
+returns-then-n-ne1 c = rw (ne_eqb c.args.n 1 c.if-n-ne1.true) (puts_then c.text.ensures c.text-then-n-ne1.ensures)

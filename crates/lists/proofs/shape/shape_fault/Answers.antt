@@ -3,7 +3,7 @@
 use mathlib.Core.Path.{sym, ap, ◌∙◌}
 use Rattle.std.specs.Prelude.{Err}
 use native.Mathlib.Omega.{arith}
-use Rattle.lists.specs.Rules.{listed}
+use Rattle.lists.specs.Rules.{lent}
 use Rattle.lists.proofs.Rules.{within_by}
 use Rattle.lists.proofs.Faults.{shape_no_fields, shape_many_fields, counted_part_rule, counted_many_rules, counted_stands}
 use Rattle.lists.proofs.shape.shape_fault.Goals as goal
@@ -19,12 +19,12 @@ returns-then-d-gt-MOST_FIELDS c = ap Err c.refuse-then-d-gt-MOST_FIELDS.ensures 
 pub overflow_mul-n : goal.overflow_mul-n
 overflow_mul-n c =
     let a = c.args in
-    omega (arith, within_by (listed a.shape a.list.now) c.rules_in-n.result c.rules_in-n.ensures)
+    omega (arith, within_by (lent a.list.now) c.rules_in-n.result c.rules_in-n.ensures)
 
 pub overflow_mul-n-2 : goal.overflow_mul-n-2
 overflow_mul-n-2 c =
     let a = c.args in
-    omega (arith, within_by (listed a.shape a.list.now) c.rules_in-n.result c.rules_in-n.ensures)
+    omega (arith, within_by (lent a.list.now) c.rules_in-n.result c.rules_in-n.ensures)
 
 -- 2
 pub returns-then-n-d : goal.returns-then-n-d
