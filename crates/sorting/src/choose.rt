@@ -8,7 +8,6 @@ ghost use Rattle.sorting.specs.Marks.{mark_of, stamped, unstamped, Marking};
 ghost use Rattle.sorting.specs.Brought.{choose_fault, ChosenInto};
 
 use crate::count_parts::parts_in;
-use crate::lay_out::write_part;
 use crate::run_fault::length_fault;
 use lists::check::list_fault;
 use lists::shape::{MOST_RULES, Shape};
@@ -36,11 +35,9 @@ fn mark(shape: Shape, list: &[u32], run: &[u16], i: u16, stamps: &mut [u16; MOST
     requires { Marking (listed shape list.now) run.now i stamps.old }
     ensures { stamps.new ≡ stamped (listed shape list.now) run.now i stamps.old }
 {
-    let mut j: u16 = 0;
-    while j < i {
+    for j in 0..i {
         let q = run[j as usize] as usize;
         stamps[q] = mark_of(shape, list, i, j, stamps[q]);
-        j += 1;
     }
 }
 
@@ -49,14 +46,12 @@ fn first_free(i: u16, stamps: &[u16; MOST_RULES]) -> u16
     requires { i < most_rules }
     ensures { result ≡ unstamped i stamps.now }
 {
-    let mut q: u16 = 0;
-    while q <= i {
+    for q in 0..i + 1 {
         if stamps[q as usize] != i + 1 {
             return q;
         }
-        q += 1;
     }
-    q
+    i + 1
 }
 
 // Writes the first-fit partition number of each rule into run and returns how many partitions that opens. The numbers are
@@ -68,13 +63,11 @@ pub(crate) fn first_fit(shape: Shape, list: &[u32], run: &mut [u16]) -> u16
     let n = run.len() as u16;
     let mut stamps = [0u16; MOST_RULES];
     let mut chosen = [0u16; MOST_RULES];
-    let mut i: u16 = 0;
-    while i < n {
+    for i in 0..n {
         mark(shape, list, &chosen[..i as usize], i, &mut stamps);
         chosen[i as usize] = first_free(i, &stamps);
-        i += 1;
     }
-    write_part(&chosen[..n as usize], 0, run);
+    run.copy_from_slice(&chosen[..n as usize]);
     parts_in(run)
 }
 

@@ -1,5 +1,5 @@
 // The refusals of a run of partition numbers that someone brings: 15, 16, 17 and 18.
-ghost use Rattle.std.specs.Prelude.{◌≡◌, not, ◌≤◌, ◌<◌, length, get_or, eqb};
+ghost use Rattle.std.specs.Prelude.{◌≡◌, false, ◌≤◌, ◌<◌, length, get_or};
 ghost use Rattle.ranges.specs.Numbers.{all};
 ghost use Rattle.lists.specs.Limits.{most_rules};
 ghost use Rattle.lists.specs.Rules.{listed, rules_in};
@@ -31,41 +31,25 @@ fn numbers_fit(run: &[u16]) -> bool
     ensures { result ≡ numbers_fit (length run.now) run.now }
 {
     let n = run.len() as u16;
-    let mut i = 0;
-    while i < run.len() {
-        if n <= run[i] {
-            return false;
-        }
-        i += 1;
-    }
-    true
+    run.iter().all(|q| *q < n)
 }
 
 // Marks the numbers that a run has.
-fn mark_used(run: &[u16], marks: &mut [u16; MOST_RULES])
+fn mark_used(run: &[u16], marks: &mut [bool; MOST_RULES])
     requires { Fitting run.now × Seen (part_of run.now) 0 marks.old }
     ensures { Seen (part_of run.now) (length run.now) marks.new }
 {
-    let mut i = 0;
-    while i < run.len() {
-        marks[run[i] as usize] = 1;
-        i += 1;
+    for q in run {
+        marks[*q as usize] = true;
     }
 }
 
 // Says whether each of the numbers below b has a mark.
-fn all_marked(marks: &[u16; MOST_RULES], b: u16) -> bool
+fn all_marked(marks: &[bool; MOST_RULES], b: u16) -> bool
     requires { b ≤ most_rules }
-    ensures { result ≡ all b (λ q. not (eqb (get_or marks.now q 0) 0)) }
+    ensures { result ≡ all b (λ q. get_or marks.now q false) }
 {
-    let mut q: u16 = 0;
-    while q < b {
-        if marks[q as usize] == 0 {
-            return false;
-        }
-        q += 1;
-    }
-    true
+    marks[..b as usize].iter().all(|m| *m)
 }
 
 // Says whether a run has each number below its largest.
@@ -74,7 +58,7 @@ fn no_gap(run: &[u16]) -> bool
     ensures { result ≡ no_gap (length run.now) run.now }
 {
     let b = parts_in(run);
-    let mut marks = [0u16; MOST_RULES];
+    let mut marks = [false; MOST_RULES];
     mark_used(run, &mut marks);
     all_marked(&marks, b)
 }
@@ -95,12 +79,10 @@ fn fits_in(shape: Shape, list: &[u32], run: &[u16], i: u16) -> bool
     requires { Numbered (listed shape list.now) run.now × (i < rules_in (listed shape list.now)) }
     ensures { result ≡ free (listed shape list.now) run.now i (part_of run.now i) }
 {
-    let mut j: u16 = 0;
-    while j < i {
+    for j in 0..i {
         if !is_apart(shape, list, run, i, j) {
             return false;
         }
-        j += 1;
     }
     true
 }
@@ -111,12 +93,10 @@ fn no_clash(shape: Shape, list: &[u32], run: &[u16]) -> bool
     ensures { result ≡ no_clash (listed shape list.now) run.now }
 {
     let n = run.len() as u16;
-    let mut i: u16 = 0;
-    while i < n {
+    for i in 0..n {
         if !fits_in(shape, list, run, i) {
             return false;
         }
-        i += 1;
     }
     true
 }
