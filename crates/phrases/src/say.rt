@@ -28,23 +28,20 @@ pub fn put_all(numbers: &[u32], out: &mut [u8], at: usize) -> usize
     ensures { PutAll numbers.now out.old at out.new result }
 {
     let mut place = at;
-    let mut i = 0;
-    while i < numbers.len() {
-        place = put_spaced(numbers[i] as u64, out, place);
-        i += 1;
+    for n in numbers {
+        place = put_spaced(*n as u64, out, place);
     }
     place
 }
 
-// Puts each number of a table after a blank.
+// Puts each number of a table after a blank. Not one function with `put_all` over `T: Into<u64>`: what `into` gives is a relation, so that
+// the contract could not name the bytes by the numbers alone.
 pub fn put_table(numbers: &[u16], out: &mut [u8], at: usize) -> usize
     ensures { PutAll numbers.now out.old at out.new result }
 {
     let mut place = at;
-    let mut i = 0;
-    while i < numbers.len() {
-        place = put_spaced(numbers[i] as u64, out, place);
-        i += 1;
+    for n in numbers {
+        place = put_spaced(*n as u64, out, place);
     }
     place
 }
