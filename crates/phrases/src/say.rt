@@ -29,7 +29,8 @@ pub fn put_all(numbers: &[u32], out: &mut Out)
     }
 }
 
-// Puts each number of a table after a blank.
+// Puts each number of a table after a blank. Not one function with `put_all` over `T: Into<u64>`: what `into` gives is a relation, so that
+// the contract could not name the bytes by the numbers alone.
 pub fn put_table(numbers: &[u16], out: &mut Out)
     ensures { PutAll numbers.now out.old out.new }
 {

