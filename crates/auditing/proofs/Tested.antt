@@ -1,7 +1,8 @@
 -- The tests of a linear audit (`specs/Checks.antt`) pass exactly where the local facts hold (`specs/Checked.antt`).
+--     fault_none                            a test for refusals that passes
 --     Passed, passed, passed_all            all tests, one by one
 --     passed_checked, checked_passed        they say what the facts say, either way
---     laid_few, laid_parted                 what a test may rely on that comes after others
+--     laid_open, laid_few, laid_parted      what a test may rely on that comes after others
 -- Assumes nothing.
 use Prim.Native.Nat.{ℕ, zero, suc, ◌+◌, ◌-◌, ◌≤◌, ◌<◌}
 use mathlib.Core.Bool.{Bool, true, false, not}
@@ -12,7 +13,9 @@ use lib.Dec.{ltb, eqb}
 use lib.ListN.{get_or}
 use borrow.Author.Tests.{lt-ltb, le-ltb, eq-eqb, ne_eqb, ltb-true, ltb-false, eqb-true, not-true, not-false}
 use Rattle.ranges.specs.Numbers.{pick, ◌and◌, all}
-use Rattle.ranges.specs.Refusals.{stands}
+use Rattle.std.specs.Prelude.{Ok, Err}
+use Rattle.std.specs.Result.{is_err}
+use Rattle.ranges.specs.Refusals.{Fault, none, stands}
 use Rattle.ranges.proofs.Numbers.{true-not-false, and_left, and_right, and_both, all_yes, all_at}
 use Rattle.lists.specs.Limits.{most_fields, most_rules}
 use Rattle.lists.specs.Rules.{Rules, fields_of, rules_in, Shaped}
@@ -25,6 +28,10 @@ use Rattle.sorting.specs.Promise.{InPart, Smallest}
 use Rattle.auditing.specs.Checked.{joined, Neighbours, Checked}
 use Rattle.auditing.proofs.Minimum.{least-smallest, smallest_once}
 use Rattle.auditing.specs.Checks.{start_fine, rule_fine, least_from, least_fine, meets, end_fine, next_by, next_fine, span_fine, part_fine, parts_fine, checks, Parted}
+
+pub fault_none : (x : Fault) → stands x ≡ true → x ≡ none
+fault_none (Ok u) e = refl
+fault_none (Err x) e = absurd (true-not-false e refl)
 
 -- ---- one start
 module _ (b : ℕ) (start : ℕ → ℕ) (q : ℕ) where
@@ -211,7 +218,7 @@ module _ (R : Rules) (T : List ℕ) where
       let behind = and_right starting (ruling and leasting and parting) rest in
       let last = and_right ruling (leasting and parting) behind in
       record {
-        opens = opened R T (eqb-true (open_fault R T).number 0 (and_left o (starting and ruling and leasting and parting) e));
+        opens = opened R T (fault_none (open_fault R T) (and_left o (starting and ruling and leasting and parting) e));
         starts = all_at (start_fine v.b v.start) (rules_in R) (and_left starting (ruling and leasting and parting) rest);
         rules = all_at (rule_fine (rules_in R) v.order) (rules_in R) (and_left ruling (leasting and parting) behind);
         leasts = all_at least_at (rules_in R) (and_left leasting parting last);
@@ -222,7 +229,7 @@ module _ (R : Rules) (T : List ℕ) where
   unfolding checks parts_fine
   passed_all h =
       rw (
-        ap stands (opened_none h.opens),
+        opened_none h.opens,
         all_yes (start_fine v.b v.start) (rules_in R) h.starts,
         all_yes (rule_fine (rules_in R) v.order) (rules_in R) h.rules,
         all_yes least_at (rules_in R) h.leasts,
@@ -341,7 +348,15 @@ module _ (R : Rules) (T : List ℕ) where
           next_yes w p s (h.order_rule p (omega arith)) (h.order_rule (suc p) is_r)
           (record { first = h.sorted q p at; rows = λ f in_row. (h.from_next q p f at in_row, h.to_next q p f at in_row) })
 
--- ---- as the code makes them, of a table that opens: n is the number of rules
+-- ---- as the code makes them: x is the opening's refusal, if there is one
+not_err : (x : Fault) → false ≡ is_err x → x ≡ none
+not_err (Ok u) e = refl
+not_err (Err x) e = absurd (true-not-false e refl)
+
+pub laid_open : {R : Rules} {T : List ℕ} {x : Fault} → x ≡ open_fault R T → false ≡ is_err x → Opened R T
+laid_open {R} {T} {x} is_x e = opened R T (sym is_x ∙ not_err x e)
+
+-- of a table that opens: n is the number of rules
 module _ {R : Rules} {T : List ℕ} (o : Opened R T) {n : ℕ} (is_n : n ≡ rules_in R) where
   pub laid_few : n ≤ most_rules
   laid_few = omega (arith, o.shape_stands.few_rules)

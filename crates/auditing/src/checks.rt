@@ -2,12 +2,12 @@
 ghost use Rattle.std.specs.Prelude.{◌≡◌, suc, ◌≤◌, ◌<◌, get_or};
 ghost use Rattle.ranges.specs.Numbers.{all};
 ghost use Rattle.lists.specs.Limits.{most_rules};
-ghost use Rattle.lists.specs.Rules.{listed};
+ghost use Rattle.lists.specs.Rules.{lent};
 ghost use Rattle.tables.specs.Layout.{view, b_at, order_in, start_in, least_in};
 ghost use Rattle.auditing.specs.Checks.{start_fine, rule_fine, least_from, least_fine, meets, next_fine, end_fine, span_fine, part_fine, checks, Held, Cell, Pair, Span, Parted};
 
-use lists::shape::{MOST_RULES, Shape, rules_in};
-use ordering::compare::{NO_FIELD, before_by};
+use lists::shape::{MOST_RULES, RuleList, rules_in};
+use ordering::compare::before_by;
 use tables::layout::{from_at, to_at};
 use tables::opening::open_fault;
 use tables::read::{end_of, least_of, part_count, rule_at, run_from, run_to, start_of};
@@ -163,28 +163,27 @@ fn ends_fine(table: &[u16], n: u16, d: u16, s: u16, e: u16) -> bool
 
 // Says whether the rule at place p comes before that at place p + 1, and the rows of the two are right.
 #[tactic(auto, unfolding(crate::specs::Checks::next_fine))]
-fn next_fine(shape: Shape, list: &[u32], table: &[u16], n: u16, d: u16, p: u16) -> bool
-    requires { Held (listed shape list.now) n d table.now × (suc p < n) }
-    ensures { result ≡ next_fine (listed shape list.now) (view n d table.now) p }
+fn next_fine(list: &RuleList, table: &[u16], n: u16, d: u16, p: u16) -> bool
+    requires { Held (lent list.now) n d table.now × (suc p < n) }
+    ensures { result ≡ next_fine (lent list.now) (view n d table.now) p }
 {
-    let a = before_by(shape, list, rule_at(table, p), rule_at(table, p + 1));
-    if NO_FIELD <= a {
-        return false;
+    match before_by(list, rule_at(table, p), rule_at(table, p + 1)) {
+        Some(a) => rows_meet(table, n, d, a, p),
+        None => false,
     }
-    rows_meet(table, n, d, a, p)
 }
 
 // Says whether a partition from place s to before e is right.
 #[tactic(auto, unfolding(crate::specs::Checks::span_fine))]
-fn span_fine(shape: Shape, list: &[u32], table: &[u16], n: u16, d: u16, s: u16, e: u16) -> bool
-    requires { Span (listed shape list.now) n d table.now s e }
-    ensures { result ≡ span_fine (listed shape list.now) (view n d table.now) s e }
+fn span_fine(list: &RuleList, table: &[u16], n: u16, d: u16, s: u16, e: u16) -> bool
+    requires { Span (lent list.now) n d table.now s e }
+    ensures { result ≡ span_fine (lent list.now) (view n d table.now) s e }
 {
     if !ends_fine(table, n, d, s, e) {
         return false;
     }
     for p in s..e - 1 {
-        if !next_fine(shape, list, table, n, d, p) {
+        if !next_fine(list, table, n, d, p) {
             return false;
         }
     }
@@ -192,14 +191,12 @@ fn span_fine(shape: Shape, list: &[u32], table: &[u16], n: u16, d: u16, s: u16, 
 }
 
 // Says whether each partition is right.
-fn parts_fine(shape: Shape, list: &[u32], table: &[u16], n: u16, d: u16) -> bool
-    requires { Parted (listed shape list.now) n d table.now }
-    ensures { result ≡ all (get_or table.now b_at 0) (part_fine (listed shape list.now) (view n d table.now)) }
+fn parts_fine(list: &RuleList, table: &[u16], n: u16, d: u16) -> bool
+    requires { Parted (lent list.now) n d table.now }
+    ensures { result ≡ all (get_or table.now b_at 0) (part_fine (lent list.now) (view n d table.now)) }
 {
-    let b = part_count(table);
-    for q in 0..b {
+    for q in 0..part_count(table) {
         if !span_fine(
-            shape,
             list,
             table,
             n,
@@ -217,13 +214,13 @@ fn parts_fine(shape: Shape, list: &[u32], table: &[u16], n: u16, d: u16) -> bool
 
 // Says whether a table opens, and its starts, its order, its smallest rule numbers and each partition are right.
 #[tactic(auto, unfolding(crate::specs::Checks::checks, crate::specs::Checks::parts_fine))]
-pub(crate) fn is_laid(shape: Shape, list: &[u32], table: &[u16]) -> bool
-    ensures { result ≡ checks (listed shape list.now) table.now }
+pub(crate) fn is_laid(list: &RuleList, table: &[u16]) -> bool
+    ensures { result ≡ checks (lent list.now) table.now }
 {
-    if open_fault(shape, list, table).number != 0 {
+    if open_fault(list, table).is_err() {
         return false;
     }
-    let n = rules_in(shape, list) as u16;
+    let n = rules_in(list) as u16;
     if !starts_fine(table, n) {
         return false;
     }
@@ -233,5 +230,5 @@ pub(crate) fn is_laid(shape: Shape, list: &[u32], table: &[u16]) -> bool
     if !leasts_fine(table, n) {
         return false;
     }
-    parts_fine(shape, list, table, n, shape.d as u16)
+    parts_fine(list, table, n, list.shape.d as u16)
 }

@@ -3,10 +3,10 @@
 use Prim.Native.Nat.{ℕ, ◌≤◌, ◌<◌}
 use mathlib.Core.Bool.{true}
 use mathlib.Core.Path.{◌≡◌}
-use Rattle.lists.specs.Rules.{listed}
+use Rattle.lists.specs.Rules.{lent}
 use Rattle.tables.specs.Layout.{view}
 use Rattle.auditing.specs.Checks.{next_fine}
 use Rattle.auditing.proofs.checks.span_fine.Given as goal
 
 abbrev pub invariant-loop-p : goal.invariant-loop-p
-invariant-loop-p l = (k : ℕ) → k < l.p → l.s ≤ k → next_fine (listed l.shape l.list) (view l.n l.d l.table) k ≡ true
+invariant-loop-p l = (k : ℕ) → k < l.p → l.s ≤ k → next_fine (lent l.list) (view l.n l.d l.table) k ≡ true
