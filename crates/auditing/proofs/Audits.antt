@@ -2,31 +2,25 @@
 -- one does.
 --     laid_made, made_laid        the run read off makes the table exactly where some choice does
 --     checks_laid                 the tests say the same
---     audit_refused, audit_laid, audit_other      the answers, as the code gives them
 -- Assumes nothing.
 use Prim.Native.Nat.{ℕ}
 use mathlib.Core.Bool.{Bool, true, false}
 use mathlib.Core.List.{List}
 use mathlib.Core.Path.{◌≡◌, refl, sym, ap, ◌∙◌}
-use borrow.Author.Tests.{eq-eqb, eqb-true}
 use Rattle.ranges.specs.Numbers.{same_list}
-use Rattle.ranges.specs.Refusals.{stands}
-use Rattle.ranges.specs.declared.refusal.Refusal.{Refusal}
+use Rattle.ranges.specs.Refusals.{Fault, stands}
 use Rattle.ranges.proofs.Numbers.{and_left, and_right, and_both, same_list-refl, same_list_equal}
 use Rattle.lists.specs.Rules.{Rules}
-use Rattle.lists.proofs.Faults.{by-refused}
 use Rattle.lists.proofs.Sound.{list_shaped, list_sound}
 use Rattle.sorting.specs.Table.{table_of}
-use Rattle.sorting.specs.Build.{Buildable, build_fault}
+use Rattle.sorting.specs.Build.{Buildable}
 use Rattle.sorting.specs.Brought.{run_fault}
-use Rattle.sorting.proofs.Answering.BuildFaults.{buildable}
 use Rattle.sorting.proofs.Answering.RunFaults.{run_none_iff}
 use Rattle.auditing.specs.ReadOff.{read_off}
 use Rattle.auditing.specs.Checks.{checks}
-use Rattle.auditing.specs.Audit.{is_laid, audit_of}
-use Rattle.auditing.specs.declared.audit.Verdict.TheVariants.{Yes, No, Refused}
+use Rattle.auditing.specs.Audit.{is_laid}
 use Rattle.auditing.proofs.Laid.{Made, checked_made, made_checked, off_back}
-use Rattle.auditing.proofs.Tested.{passed, passed_all, passed_checked, checked_passed}
+use Rattle.auditing.proofs.Tested.{fault_none, passed, passed_all, passed_checked, checked_passed}
 
 -- ---- a list and a table that meet none of 1 to 5
 module _ (R : Rules) (T : List ℕ) (h : Buildable R T) where
@@ -35,7 +29,7 @@ module _ (R : Rules) (T : List ℕ) (h : Buildable R T) where
   laid_made e =
       let fine = stands (run_fault R (read_off R T)) in
       let same = same_list T (table_of R (read_off R T)) in
-      let told = (run_none_iff R (read_off R T)).0 (eqb-true (run_fault R (read_off R T)).number 0 (and_left fine same e)) in
+      let told = (run_none_iff R (read_off R T)).0 (fault_none (run_fault R (read_off R T)) (and_left fine same e)) in
       record { run = read_off R T; one_each = told.0; choice = told.1; is = same_list_equal T (table_of R (read_off R T)) (and_right fine same e) }
 
   pub made_laid : Made R T → is_laid R T ≡ true
@@ -44,7 +38,7 @@ module _ (R : Rules) (T : List ℕ) (h : Buildable R T) where
       let is : read_off R T ≡ m.run = ap (read_off R) m.is ∙ off_back (list_sound R h.no_fault) m.choice m.one_each in
       let one : table_of R (read_off R T) ≡ T = ap (table_of R) is ∙ sym m.is in
       and_both (stands (run_fault R (read_off R T))) (same_list T (table_of R (read_off R T)))
-      (rw is (eq-eqb (run_fault R m.run).number 0 ((run_none_iff R m.run).1 (m.one_each, m.choice))))
+      (rw is (ap (λ (x : Fault). stands x) ((run_none_iff R m.run).1 (m.one_each, m.choice))))
       (rw one (same_list-refl T))
 
   pub checks_laid : checks R T ≡ is_laid R T
@@ -56,18 +50,3 @@ module _ (R : Rules) (T : List ℕ) (h : Buildable R T) where
       go true false e g = sym (made_laid (checked_made R T (list_sound R h.no_fault) h.sized (passed_checked R T (passed R T e)))) ∙ g
       go false true e g =
           sym e ∙ passed_all R T (checked_passed R T (list_shaped R h.no_fault) h.sized (made_checked R T (list_sound R h.no_fault) (laid_made g)))
-
--- ---- the answers: x is the refusal and t what the tests say, as callees gave them
-module _ (R : Rules) (T : List ℕ) (x : Refusal) (is_x : x ≡ build_fault R T) where
-  pub audit_refused : (x.number ≡ 0 → ⊥) → Refused x ≡ audit_of R T
-  audit_refused ne = by-refused x (build_fault R T) is_x Refused _ ne
-
-  module _ (z : x.number ≡ 0) {t : Bool} (is-t : t ≡ checks R T) where
-    laid_is : is_laid R T ≡ t
-    laid_is = sym (is-t ∙ checks_laid R T (buildable R T (rw is_x at z)))
-
-    pub audit_laid : t ≡ true → Yes ≡ audit_of R T
-    audit_laid e = rw (← is_x, eq-eqb x.number 0 z, laid_is, e)
-
-    pub audit_other : t ≡ false → No ≡ audit_of R T
-    audit_other e = rw (← is_x, eq-eqb x.number 0 z, laid_is, e)

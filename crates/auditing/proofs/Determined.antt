@@ -6,5 +6,5 @@ use Rattle.ranges.proofs.OneAnswer.{OneAnswer}
 use Rattle.auditing.proofs.audit.audit.Kinds as audit_kinds
 use Rattle.auditing.proofs.audit.audit.Reads as audit_reads
 
-pub audit_one : OneAnswer 2 audit_kinds.ps audit_kinds.r audit_reads.Learnt
+pub audit_one : OneAnswer 3 audit_kinds.ps audit_kinds.r audit_reads.Learnt
 audit_one κs a x y e g p q = p ∙ sym q

@@ -1,7 +1,8 @@
 -- The tests of a linear audit (`specs/Checks.antt`) pass exactly where the local facts hold (`specs/Checked.antt`).
+--     fault_none                            a test for refusals that passes
 --     Passed, passed, passed_all            all tests, one by one
 --     passed_checked, checked_passed        they say what the facts say, either way
---     laid_fields, laid_held, laid_few, laid_parted, by-opening, by_starts, by_rules, by_leasts, by_parts      as the code makes them
+--     laid_open, laid_few, laid_parted      what a test may rely on that comes after others
 -- Assumes nothing.
 use Prim.Native.Nat.{ℕ, zero, suc, ◌+◌, ◌-◌, ◌≤◌, ◌<◌}
 use mathlib.Core.Bool.{Bool, true, false, not}
@@ -12,20 +13,25 @@ use lib.Dec.{ltb, eqb}
 use lib.ListN.{get_or}
 use borrow.Author.Tests.{lt-ltb, le-ltb, eq-eqb, ne_eqb, ltb-true, ltb-false, eqb-true, not-true, not-false}
 use Rattle.ranges.specs.Numbers.{pick, ◌and◌, all}
-use Rattle.ranges.specs.Refusals.{stands}
-use Rattle.ranges.specs.declared.refusal.Refusal.{Refusal}
+use Rattle.std.specs.Prelude.{Ok, Err}
+use Rattle.std.specs.Result.{is_err}
+use Rattle.ranges.specs.Refusals.{Fault, none, stands}
 use Rattle.ranges.proofs.Numbers.{true-not-false, and_left, and_right, and_both, all_yes, all_at}
 use Rattle.lists.specs.Limits.{most_fields, most_rules}
 use Rattle.lists.specs.Rules.{Rules, fields_of, rules_in, Shaped}
 use Rattle.ordering.specs.Order.{before, before_by}
 use Rattle.ordering.proofs.BothIn.{by_says, by_yes}
-use Rattle.tables.specs.Layout.{View, TableFor, view, b_at, order_in, start_in, least_in}
+use Rattle.tables.specs.Layout.{View, TableFor, b_at, start_in}
 use Rattle.tables.specs.Opening.{view_of, open_fault}
 use Rattle.tables.proofs.Opened.{Opened, opened, opened_none}
 use Rattle.sorting.specs.Promise.{InPart, Smallest}
 use Rattle.auditing.specs.Checked.{joined, Neighbours, Checked}
 use Rattle.auditing.proofs.Minimum.{least-smallest, smallest_once}
-use Rattle.auditing.specs.Checks.{start_fine, rule_fine, least_from, least_fine, meets, end_fine, next_by, next_fine, span_fine, part_fine, parts_fine, checks, Held, Parted}
+use Rattle.auditing.specs.Checks.{start_fine, rule_fine, least_from, least_fine, meets, end_fine, next_by, next_fine, span_fine, part_fine, parts_fine, checks, Parted}
+
+pub fault_none : (x : Fault) → stands x ≡ true → x ≡ none
+fault_none (Ok u) e = refl
+fault_none (Err x) e = absurd (true-not-false e refl)
 
 -- ---- one start
 module _ (b : ℕ) (start : ℕ → ℕ) (q : ℕ) where
@@ -212,7 +218,7 @@ module _ (R : Rules) (T : List ℕ) where
       let behind = and_right starting (ruling and leasting and parting) rest in
       let last = and_right ruling (leasting and parting) behind in
       record {
-        opens = opened R T (eqb-true (open_fault R T).number 0 (and_left o (starting and ruling and leasting and parting) e));
+        opens = opened R T (fault_none (open_fault R T) (and_left o (starting and ruling and leasting and parting) e));
         starts = all_at (start_fine v.b v.start) (rules_in R) (and_left starting (ruling and leasting and parting) rest);
         rules = all_at (rule_fine (rules_in R) v.order) (rules_in R) (and_left ruling (leasting and parting) behind);
         leasts = all_at least_at (rules_in R) (and_left leasting parting last);
@@ -223,7 +229,7 @@ module _ (R : Rules) (T : List ℕ) where
   unfolding checks parts_fine
   passed_all h =
       rw (
-        ap stands (opened_none h.opens),
+        opened_none h.opens,
         all_yes (start_fine v.b v.start) (rules_in R) h.starts,
         all_yes (rule_fine (rules_in R) v.order) (rules_in R) h.rules,
         all_yes least_at (rules_in R) h.leasts,
@@ -342,70 +348,30 @@ module _ (R : Rules) (T : List ℕ) where
           next_yes w p s (h.order_rule p (omega arith)) (h.order_rule (suc p) is_r)
           (record { first = h.sorted q p at; rows = λ f in_row. (h.from_next q p f at in_row, h.to_next q p f at in_row) })
 
--- ---- as the code makes them: x is the opening's refusal, n the number of rules, s, u, m and t what the tests said
-module _ (R : Rules) (T : List ℕ) {x : Refusal} (is_x : x ≡ open_fault R T) where
-  pub by-opening : (x.number ≡ 0 → ⊥) → false ≡ checks R T
-  unfolding checks
-  by-opening ne = rw (← is_x, ne_eqb x.number 0 ne)
+-- ---- as the code makes them: x is the opening's refusal, if there is one
+not_err : (x : Fault) → false ≡ is_err x → x ≡ none
+not_err (Ok u) e = refl
+not_err (Err x) e = absurd (true-not-false e refl)
 
-  module _ (z : x.number ≡ 0) where
-    laid_open : Opened R T
-    laid_open = opened R T (rw is_x at z)
+pub laid_open : {R : Rules} {T : List ℕ} {x : Fault} → x ≡ open_fault R T → false ≡ is_err x → Opened R T
+laid_open {R} {T} {x} is_x e = opened R T (sym is_x ∙ not_err x e)
 
-    checks_is : checks R T ≡ parts_fine R (view_of R T)
-    unfolding checks
-    checks_is = rw (← is_x, eq-eqb x.number 0 z)
+-- of a table that opens: n is the number of rules
+module _ {R : Rules} {T : List ℕ} (o : Opened R T) {n : ℕ} (is_n : n ≡ rules_in R) where
+  pub laid_few : n ≤ most_rules
+  laid_few = omega (arith, o.shape_stands.few_rules)
 
-    pub laid_fields : fields_of R ≤ most_fields
-    laid_fields = laid_open.shape_stands.few_fields
-
-    module _ {n : ℕ} (is_n : n ≡ rules_in R) where
-      pub laid_few : n ≤ most_rules
-      laid_few = omega (arith, laid_open.shape_stands.few_rules)
-
-      pub laid_held : Held R n (fields_of R) T
-      laid_held =
-          record { shape_stands = laid_open.shape_stands; is_n = is_n; is_d = refl; sized = subst (λ m. TableFor m (fields_of R) T) (sym is_n) laid_open.sized }
-
-      module _ {s : Bool} (is-s : s ≡ all n (start_fine (get_or T b_at 0) (start_in n T))) where
-        starts_are : all (rules_in R) (start_fine (view_of R T).b (view_of R T).start) ≡ s
-        starts_are = sym (subst (λ m. s ≡ all m (start_fine (get_or T b_at 0) (start_in m T))) is_n is-s)
-
-        pub by_starts : not s ≡ true → false ≡ checks R T
-        unfolding parts_fine
-        by_starts e = sym (checks_is ∙ rw (starts_are, not-true s e))
-
-        module _ (ascend : not s ≡ false) {u : Bool} (is-u : u ≡ all n (rule_fine n (order_in T))) where
-          rules_are : all (rules_in R) (rule_fine (rules_in R) (view_of R T).order) ≡ u
-          rules_are = sym (subst (λ m. u ≡ all m (rule_fine m (order_in T))) is_n is-u)
-
-          pub by_rules : not u ≡ true → false ≡ checks R T
-          unfolding parts_fine
-          by_rules e = sym (checks_is ∙ rw (starts_are, not-false s ascend, rules_are, not-true u e))
-
-          pub laid_parted : Parted R n (fields_of R) T
-          laid_parted =
-              let o = laid_open in
-              let up : (q : ℕ) → q < get_or T b_at 0 → (view_of R T).start q < (view_of R T).start (suc q)
-              = λ q lt. start_up (get_or T b_at 0) (view_of R T).start q lt
-              (all_at (start_fine (view_of R T).b (view_of R T).start) (rules_in R) (starts_are ∙ not-false s ascend) q (omega (arith, o.few_parts))) in
-              record {
-                held = laid_held;
-                few = omega (arith, is_n, o.few_parts);
-                ascend = subst (λ m. (q : ℕ) → q < get_or T b_at 0 → start_in m T q < start_in m T (suc q)) (sym is_n) up;
-                within = subst (λ m. (q : ℕ) → q < get_or T b_at 0 → start_in m T (suc q) ≤ m) (sym is_n) (ends_within o up);
-              }
-
-          module _ (once : not u ≡ false) {m : Bool} (is_m : m ≡ all n (least_fine n (get_or T b_at 0) (order_in T) (start_in n T) (least_in n T))) where
-            leasts_are : leasting R T ≡ m
-            leasts_are = sym (subst (λ k. m ≡ all k (least_fine k (get_or T b_at 0) (order_in T) (start_in k T) (least_in k T))) is_n is_m)
-
-            pub by_leasts : not m ≡ true → false ≡ checks R T
-            unfolding parts_fine
-            by_leasts e = sym (checks_is ∙ rw (starts_are, not-false s ascend, rules_are, not-false u once, leasts_are, not-true m e))
-
-            pub by_parts : not m ≡ false → {t : Bool} → t ≡ all (get_or T b_at 0) (part_fine R (view n (fields_of R) T)) → t ≡ checks R T
-            unfolding parts_fine
-            by_parts true-least {t} is-t =
-                let here : all (view_of R T).b (part_fine R (view_of R T)) ≡ t = sym (subst (λ m. t ≡ all (get_or T b_at 0) (part_fine R (view m (fields_of R) T))) is_n is-t) in
-                sym (checks_is ∙ rw (starts_are, not-false s ascend, rules_are, not-false u once, leasts_are, not-false m true-least, here))
+  -- s is what was said of the starts
+  pub laid_parted : {s : Bool} → s ≡ all n (start_fine (get_or T b_at 0) (start_in n T)) → not s ≡ false → Parted R n (fields_of R) T
+  laid_parted {s} is-s ascend =
+      let fine : all n (start_fine (get_or T b_at 0) (start_in n T)) ≡ true = sym is-s ∙ not-false s ascend in
+      let up : (q : ℕ) → q < get_or T b_at 0 → (view_of R T).start q < (view_of R T).start (suc q)
+      = λ q lt. start_up (get_or T b_at 0) (view_of R T).start q lt
+      (all_at (start_fine (view_of R T).b (view_of R T).start) (rules_in R) (rw is_n at fine) q (omega (arith, o.few_parts))) in
+      rw is_n
+      record {
+        held = record { shape_stands = o.shape_stands; is_n = refl; is_d = refl; sized = o.sized };
+        few = o.few_parts;
+        ascend = up;
+        within = ends_within o up;
+      }

@@ -18,11 +18,11 @@ use mathlib.Core.List.{List}
 use mathlib.Core.Logic.{◌↔◌}
 use mathlib.Core.Path.{◌≡◌, refl, sym, ◌∙◌, subst}
 use lib.ListN.{length}
-use borrow.Author.Tests.{eq-eqb, eqb-true}
-use Rattle.ranges.specs.Numbers.{pick}
-use Rattle.ranges.specs.Refusals.{stands}
-use Rattle.ranges.specs.declared.refusal.Count.TheVariants.{Is as CountIs}
-use Rattle.ranges.proofs.Numbers.{never, picked}
+use Rattle.std.specs.Prelude.{Result, Ok}
+use Rattle.ranges.specs.Refusals.{none}
+use Rattle.ranges.specs.declared.refusal.Refusal.{Refusal}
+use Rattle.ranges.proofs.Numbers.{true-not-false}
+use Rattle.ranges.proofs.InARow.{else_none}
 use Rattle.lists.specs.Rules.{Rules, rules_in}
 use Rattle.lists.specs.Faults.{list_fault}
 use Rattle.lists.proofs.Sound.{list_sound}
@@ -41,14 +41,13 @@ use Rattle.sorting.proofs.Theorems.{lay_out_is_b_iff, laid_table, built_table_le
 use Rattle.auditing.specs.ReadOff.{read_off}
 use Rattle.auditing.specs.Checked.{Checked}
 use Rattle.auditing.specs.Audit.{is_laid, audit_of}
-use Rattle.auditing.specs.declared.audit.Verdict.TheVariants.{Yes, No, Refused}
 use Rattle.auditing.proofs.Laid.{Made, checked_made, made_checked, made_once, off_back}
 use Rattle.auditing.proofs.Audits.{laid_made, made_laid}
 
 -- this run makes `lay_out` write this table: it answers b and leaves the table as it is
 pub record Lays (R : Rules) (T run : List ℕ) : Type 0 where
   pub b : ℕ
-  pub answers : lay_out_of R run T ≡ CountIs b
+  pub answers : lay_out_of R run T ≡ Ok b
   pub leaves : laid_after R run T ≡ T
 
 module _ (R : Rules) (T : List ℕ) where
@@ -71,36 +70,38 @@ module _ (R : Rules) (T : List ℕ) where
       }
 
   -- what a yes says, and what gives one
-  yes_made : audit_of R T ≡ Yes → Buildable R T × Made R T
-  yes_made e =
-      let told = picked (pick (is_laid R T) Yes No) (Refused (build_fault R T)) Yes (stands (build_fault R T)) e (λ r. never (cc)) in
-      let laid = (picked Yes No Yes (is_laid R T) told.1 (λ r. never (cc))).0 in
-      let h = buildable R T (eqb-true (build_fault R T).number 0 told.0) in
-      (h, laid_made R T h laid)
+  -- what is said where nothing is refused
+  said_laid : (t : Bool) → audit_of R T ≡ Ok t → Buildable R T × (is_laid R T ≡ t)
+  said_laid t e =
+      let told = (else_none (build_fault R T) (Ok (is_laid R T))).0 e in
+      let same = told.1 in
+      (buildable R T told.0, cc)
 
-  made_yes : Buildable R T → Made R T → audit_of R T ≡ Yes
-  made_yes h m = rw (eq-eqb (build_fault R T).number 0 (fine-none R T h), made_laid R T h m)
+  yes_made : audit_of R T ≡ Ok true → Buildable R T × Made R T
+  yes_made e = let told = said_laid true e in (told.0, laid_made R T told.0 told.1)
+
+  made_yes : Buildable R T → Made R T → audit_of R T ≡ Ok true
+  made_yes h m = rw (fine-none R T h, made_laid R T h m)
 
   -- ---- T12
-  pub audit_yes_iff : (audit_of R T ≡ Yes) ↔ ((run : List ℕ) × Lays R T run)
+  pub audit_yes_iff : (audit_of R T ≡ Ok true) ↔ ((run : List ℕ) × Lays R T run)
   audit_yes_iff = (
     λ e. let made = yes_made e in (made.1.run, made_lays made.0 made.1),
     λ h. made_yes (lays_layable h.0 h.1).fine (lays_made h.0 h.1),
   )
 
-  pub audit_no_iff : (audit_of R T ≡ No) ↔ (Buildable R T × ((run : List ℕ) → Lays R T run → ⊥))
+  pub audit_no_iff : (audit_of R T ≡ Ok false) ↔ (Buildable R T × ((run : List ℕ) → Lays R T run → ⊥))
   audit_no_iff = (to, fro)
     where
-      to : audit_of R T ≡ No → Buildable R T × ((run : List ℕ) → Lays R T run → ⊥)
+      to : audit_of R T ≡ Ok false → Buildable R T × ((run : List ℕ) → Lays R T run → ⊥)
       to e =
-          let told = picked (pick (is_laid R T) Yes No) (Refused (build_fault R T)) No (stands (build_fault R T)) e (λ r. never (cc)) in
-          let h = buildable R T (eqb-true (build_fault R T).number 0 told.0) in
-          (h, λ run lays. let yes-too = made_yes h (lays_made run lays) in never (cc))
+          let told = said_laid false e in
+          (told.0, λ run lays. true-not-false (made_laid R T told.0 (lays_made run lays)) told.1)
 
-      fro : Buildable R T × ((run : List ℕ) → Lays R T run → ⊥) → audit_of R T ≡ No
-      fro h = rw (eq-eqb (build_fault R T).number 0 (fine-none R T h.0)) (go (is_laid R T) refl)
+      fro : Buildable R T × ((run : List ℕ) → Lays R T run → ⊥) → audit_of R T ≡ Ok false
+      fro h = rw (fine-none R T h.0) (go (is_laid R T) refl)
         where
-          go : (t : Bool) → is_laid R T ≡ t → pick t Yes No ≡ No
+          go : (t : Bool) → is_laid R T ≡ t → ◌≡◌ {A = Result Bool Refusal} (Ok t) (Ok false)
           go true e = let m = laid_made R T h.0 e in absurd (h.1 m.run (made_lays h.0 m))
           go false e = refl
 
@@ -116,25 +117,25 @@ module _ (R : Rules) (T : List ℕ) where
       )
 
   -- none of 1 to 5 applies where yes is said
-  pub audit_fine : audit_of R T ≡ Yes → Buildable R T
+  pub audit_fine : audit_of R T ≡ Ok true → Buildable R T
   audit_fine e = (yes_made e).0
 
-  pub audited_promises : audit_of R T ≡ Yes → Promise R (view_of R T)
+  pub audited_promises : audit_of R T ≡ Ok true → Promise R (view_of R T)
   audited_promises e =
       let made = yes_made e in
       subst (λ S. Promise R (view_of R S)) (sym made.1.is) (choice_keeps_promise (list_sound R made.0.no_fault) made.1.choice)
 
-pub read_off_is_run : (R : Rules) (run : List ℕ) (b : ℕ) → (list_fault R).number ≡ 0 → length run ≡ rules_in R → Choice R run b → read_off R (table_of R run) ≡ run
+pub read_off_is_run : (R : Rules) (run : List ℕ) (b : ℕ) → list_fault R ≡ none → length run ≡ rules_in R → Choice R run b → read_off R (table_of R run) ≡ run
 read_off_is_run R run b fine one_each choice = off_back (list_sound R fine) choice one_each
 
 -- ---- what was written is audited yes
-pub lay_out_then_audit : (R : Rules) (run T : List ℕ) → Layable R run T → audit_of R (laid_after R run T) ≡ Yes
+pub lay_out_then_audit : (R : Rules) (run T : List ℕ) → Layable R run T → audit_of R (laid_after R run T) ≡ Ok true
 lay_out_then_audit R run T h =
     let is = laid_table R run T h in
     made_yes R (laid_after R run T) (record { no_fault = h.fine.no_fault; sized = rw is (table_sized R run) })
     (record { run = run; one_each = h.one_each; choice = h.choice; is = is })
 
-pub build_then_audit : (R : Rules) (T : List ℕ) → Buildable R T → audit_of R (table_after R T) ≡ Yes
+pub build_then_audit : (R : Rules) (T : List ℕ) → Buildable R T → audit_of R (table_after R T) ≡ Ok true
 build_then_audit R T h =
     let fit = fit_layable R T h in
     let same : table_after R T ≡ laid_after R (first_fit R (rules_in R)) T = built_table_lem R T h ∙ sym (laid_table R (first_fit R (rules_in R)) T fit) in

@@ -1,13 +1,13 @@
 // The tests of a linear audit: the local facts of a table, each tested before what relies on it.
-ghost use Rattle.std.specs.Prelude.{◌≡◌, suc, min, ◌≤◌, ◌<◌, get_or};
-ghost use Rattle.ranges.specs.Numbers.{all, pick};
+ghost use Rattle.std.specs.Prelude.{◌≡◌, suc, ◌≤◌, ◌<◌, get_or};
+ghost use Rattle.ranges.specs.Numbers.{all};
 ghost use Rattle.lists.specs.Limits.{most_rules};
-ghost use Rattle.lists.specs.Rules.{listed};
+ghost use Rattle.lists.specs.Rules.{lent};
 ghost use Rattle.tables.specs.Layout.{view, b_at, order_in, start_in, least_in};
 ghost use Rattle.auditing.specs.Checks.{start_fine, rule_fine, least_from, least_fine, meets, next_fine, end_fine, span_fine, part_fine, checks, Held, Cell, Pair, Span, Parted};
 
-use lists::shape::{MOST_RULES, Shape, rules_in};
-use ordering::compare::{NO_FIELD, before_by};
+use lists::shape::{MOST_RULES, RuleList, rules_in};
+use ordering::compare::before_by;
 use tables::layout::{from_at, to_at};
 use tables::opening::open_fault;
 use tables::read::{end_of, least_of, part_count, rule_at, run_from, run_to, start_of};
@@ -15,6 +15,7 @@ use tables::read::{end_of, least_of, part_count, rule_at, run_from, run_to, star
 // ---- the starts
 
 // Says whether the start after q is right, of b partitions: past start q where q is one of them, else 0.
+#[tactic(auto, unfolding(crate::specs::Checks::start_fine))]
 fn start_fine(table: &[u16], n: u16, b: u16, q: u16) -> bool
     ensures { result ≡ start_fine b (start_in n table.now) q }
 {
@@ -69,6 +70,7 @@ fn least_rule(table: &[u16], n: u16, s: u16, e: u16) -> u16
 
 // Says whether the number stored for q is right, of b partitions: the smallest rule number of its places where q is one of
 // them, else 0.
+#[tactic(auto, unfolding(crate::specs::Checks::least_fine))]
 fn least_fine(table: &[u16], n: u16, b: u16, q: u16) -> bool
     ensures { result ≡ least_fine n b (order_in table.now) (start_in n table.now) (least_in n table.now) q }
 {
@@ -107,12 +109,16 @@ fn to_in(table: &[u16], n: u16, d: u16, p: u16, f: u16) -> u16
 
 // Says whether field f of places p and p + 1 is right, whose rules have their first a fields alike: below a the run goes on,
 // and from a on it ends with p and begins with p + 1.
+#[tactic(auto, unfolding(crate::specs::Checks::meets))]
 fn field_meets(table: &[u16], n: u16, d: u16, a: u16, p: u16, f: u16) -> bool
     requires { Pair n d table.now p × (f < d) }
     ensures { result ≡ meets (view n d table.now) a p f }
 {
-    let from = if f < a { from_in(table, n, d, p, f) } else { p + 1 };
-    let to = if f < a { to_in(table, n, d, p + 1, f) } else { p + 1 };
+    let (from, to) = if f < a {
+        (from_in(table, n, d, p, f), to_in(table, n, d, p + 1, f))
+    } else {
+        (p + 1, p + 1)
+    };
     if from_in(table, n, d, p + 1, f) != from {
         return false;
     }
@@ -134,6 +140,7 @@ fn rows_meet(table: &[u16], n: u16, d: u16, a: u16, p: u16) -> bool
 
 // Says whether in field f the run of a partition's first place s begins there, and that of the place before e, its last, ends
 // with it.
+#[tactic(auto, unfolding(crate::specs::Checks::end_fine))]
 fn end_fine(table: &[u16], n: u16, d: u16, s: u16, e: u16, f: u16) -> bool
     requires { s < e }
     ensures { result ≡ end_fine (view n d table.now) s e f }
@@ -155,27 +162,28 @@ fn ends_fine(table: &[u16], n: u16, d: u16, s: u16, e: u16) -> bool
 // ---- the partitions
 
 // Says whether the rule at place p comes before that at place p + 1, and the rows of the two are right.
-fn next_fine(shape: Shape, list: &[u32], table: &[u16], n: u16, d: u16, p: u16) -> bool
-    requires { Held (listed shape list.now) n d table.now × (suc p < n) }
-    ensures { result ≡ next_fine (listed shape list.now) (view n d table.now) p }
+#[tactic(auto, unfolding(crate::specs::Checks::next_fine))]
+fn next_fine(list: &RuleList, table: &[u16], n: u16, d: u16, p: u16) -> bool
+    requires { Held (lent list.now) n d table.now × (suc p < n) }
+    ensures { result ≡ next_fine (lent list.now) (view n d table.now) p }
 {
-    let a = before_by(shape, list, rule_at(table, p), rule_at(table, p + 1));
-    if NO_FIELD <= a {
-        return false;
+    match before_by(list, rule_at(table, p), rule_at(table, p + 1)) {
+        Some(a) => rows_meet(table, n, d, a, p),
+        None => false,
     }
-    rows_meet(table, n, d, a, p)
 }
 
 // Says whether a partition from place s to before e is right.
-fn span_fine(shape: Shape, list: &[u32], table: &[u16], n: u16, d: u16, s: u16, e: u16) -> bool
-    requires { Span (listed shape list.now) n d table.now s e }
-    ensures { result ≡ span_fine (listed shape list.now) (view n d table.now) s e }
+#[tactic(auto, unfolding(crate::specs::Checks::span_fine))]
+fn span_fine(list: &RuleList, table: &[u16], n: u16, d: u16, s: u16, e: u16) -> bool
+    requires { Span (lent list.now) n d table.now s e }
+    ensures { result ≡ span_fine (lent list.now) (view n d table.now) s e }
 {
     if !ends_fine(table, n, d, s, e) {
         return false;
     }
     for p in s..e - 1 {
-        if !next_fine(shape, list, table, n, d, p) {
+        if !next_fine(list, table, n, d, p) {
             return false;
         }
     }
@@ -183,14 +191,12 @@ fn span_fine(shape: Shape, list: &[u32], table: &[u16], n: u16, d: u16, s: u16, 
 }
 
 // Says whether each partition is right.
-fn parts_fine(shape: Shape, list: &[u32], table: &[u16], n: u16, d: u16) -> bool
-    requires { Parted (listed shape list.now) n d table.now }
-    ensures { result ≡ all (get_or table.now b_at 0) (part_fine (listed shape list.now) (view n d table.now)) }
+fn parts_fine(list: &RuleList, table: &[u16], n: u16, d: u16) -> bool
+    requires { Parted (lent list.now) n d table.now }
+    ensures { result ≡ all (get_or table.now b_at 0) (part_fine (lent list.now) (view n d table.now)) }
 {
-    let b = part_count(table);
-    for q in 0..b {
+    for q in 0..part_count(table) {
         if !span_fine(
-            shape,
             list,
             table,
             n,
@@ -207,13 +213,14 @@ fn parts_fine(shape: Shape, list: &[u32], table: &[u16], n: u16, d: u16) -> bool
 // ---- all of it
 
 // Says whether a table opens, and its starts, its order, its smallest rule numbers and each partition are right.
-pub(crate) fn is_laid(shape: Shape, list: &[u32], table: &[u16]) -> bool
-    ensures { result ≡ checks (listed shape list.now) table.now }
+#[tactic(auto, unfolding(crate::specs::Checks::checks, crate::specs::Checks::parts_fine))]
+pub(crate) fn is_laid(list: &RuleList, table: &[u16]) -> bool
+    ensures { result ≡ checks (lent list.now) table.now }
 {
-    if open_fault(shape, list, table).number != 0 {
+    if open_fault(list, table).is_err() {
         return false;
     }
-    let n = rules_in(shape, list) as u16;
+    let n = rules_in(list) as u16;
     if !starts_fine(table, n) {
         return false;
     }
@@ -223,5 +230,5 @@ pub(crate) fn is_laid(shape: Shape, list: &[u32], table: &[u16]) -> bool
     if !leasts_fine(table, n) {
         return false;
     }
-    parts_fine(shape, list, table, n, shape.d as u16)
+    parts_fine(list, table, n, list.shape.d as u16)
 }

@@ -27,44 +27,44 @@ pub flaw_number_one : OneAnswer 0 flaw_number_kinds.ps flaw_number_kinds.r flaw_
 flaw_number_one κs a x y e g p q = p ∙ sym q
 
 -- ---- say, and the bytes afterwards
-pub put_plural_place_one : OneRun 3 put_plural_kinds.ps put_plural_kinds.r put_plural_reads.Learnt (λ κs e. e.1.1.0.now.at)
-put_plural_place_one κs a x y e g p q = place_one p.put q.put
+pub put_plural_one : OneRun 3 put_plural_kinds.ps put_plural_kinds.r put_plural_reads.Learnt (λ κs e. e.1.1.0.now.at)
+put_plural_one κs a x y e g p q = place_one p.put q.put
 
 pub put_plural_run_one : OneRun 3 put_plural_kinds.ps put_plural_kinds.r put_plural_reads.Learnt (λ κs e. e.1.1.0.now.bytes.now)
 put_plural_run_one κs a x y e g p q = bytes_one p.put q.put
 
-pub put_cells_place_one : OneRun 2 put_cells_kinds.ps put_cells_kinds.r put_cells_reads.Learnt (λ κs e. e.1.0.now.at)
-put_cells_place_one κs a x y e g p q = place_one p.put q.put
+pub put_cells_one : OneRun 2 put_cells_kinds.ps put_cells_kinds.r put_cells_reads.Learnt (λ κs e. e.1.0.now.at)
+put_cells_one κs a x y e g p q = place_one p.put q.put
 
 pub put_cells_run_one : OneRun 2 put_cells_kinds.ps put_cells_kinds.r put_cells_reads.Learnt (λ κs e. e.1.0.now.bytes.now)
 put_cells_run_one κs a x y e g p q = bytes_one p.put q.put
 
-pub put_not_number_place_one : OneRun 2 put_not_number_kinds.ps put_not_number_kinds.r put_not_number_reads.Learnt (λ κs e. e.1.0.now.at)
-put_not_number_place_one κs a x y e g p q = place_one p.put q.put
+pub put_not_number_one : OneRun 2 put_not_number_kinds.ps put_not_number_kinds.r put_not_number_reads.Learnt (λ κs e. e.1.0.now.at)
+put_not_number_one κs a x y e g p q = place_one p.put q.put
 
 pub put_not_number_run_one : OneRun 2 put_not_number_kinds.ps put_not_number_kinds.r put_not_number_reads.Learnt (λ κs e. e.1.0.now.bytes.now)
 put_not_number_run_one κs a x y e g p q = bytes_one p.put q.put
 
-pub put_feed_place_one : OneRun 3 put_feed_kinds.ps put_feed_kinds.r put_feed_reads.Learnt (λ κs e. e.1.0.now.at)
-put_feed_place_one κs a x y e g p q = place_one p.put q.put
+pub put_feed_one : OneRun 3 put_feed_kinds.ps put_feed_kinds.r put_feed_reads.Learnt (λ κs e. e.1.0.now.at)
+put_feed_one κs a x y e g p q = place_one p.put q.put
 
 pub put_feed_run_one : OneRun 3 put_feed_kinds.ps put_feed_kinds.r put_feed_reads.Learnt (λ κs e. e.1.0.now.bytes.now)
 put_feed_run_one κs a x y e g p q = bytes_one p.put q.put
 
-pub put_flaw_place_one : OneRun 3 put_flaw_kinds.ps put_flaw_kinds.r put_flaw_reads.Learnt (λ κs e. e.1.1.0.now.at)
-put_flaw_place_one κs a x y e g p q = place_one p.put q.put
+pub put_flaw_one : OneRun 3 put_flaw_kinds.ps put_flaw_kinds.r put_flaw_reads.Learnt (λ κs e. e.1.1.0.now.at)
+put_flaw_one κs a x y e g p q = place_one p.put q.put
 
 pub put_flaw_run_one : OneRun 3 put_flaw_kinds.ps put_flaw_kinds.r put_flaw_reads.Learnt (λ κs e. e.1.1.0.now.bytes.now)
 put_flaw_run_one κs a x y e g p q = bytes_one p.put q.put
 
-pub put_named_place_one : OneRun 4 put_named_kinds.ps put_named_kinds.r put_named_reads.Learnt (λ κs e. e.1.1.0.now.at)
-put_named_place_one κs a x y e g p q = place_one p.put q.put
+pub put_named_one : OneRun 4 put_named_kinds.ps put_named_kinds.r put_named_reads.Learnt (λ κs e. e.1.1.0.now.at)
+put_named_one κs a x y e g p q = place_one p.put q.put
 
 pub put_named_run_one : OneRun 4 put_named_kinds.ps put_named_kinds.r put_named_reads.Learnt (λ κs e. e.1.1.0.now.bytes.now)
 put_named_run_one κs a x y e g p q = bytes_one p.put q.put
 
-pub put_complaint_place_one : OneRun 4 put_complaint_kinds.ps put_complaint_kinds.r put_complaint_reads.Learnt (λ κs e. e.1.1.1.0.now.at)
-put_complaint_place_one κs a x y e g p q = place_one p.put q.put
+pub put_complaint_one : OneRun 4 put_complaint_kinds.ps put_complaint_kinds.r put_complaint_reads.Learnt (λ κs e. e.1.1.1.0.now.at)
+put_complaint_one κs a x y e g p q = place_one p.put q.put
 
 pub put_complaint_run_one : OneRun 4 put_complaint_kinds.ps put_complaint_kinds.r put_complaint_reads.Learnt (λ κs e. e.1.1.1.0.now.bytes.now)
 put_complaint_run_one κs a x y e g p q = bytes_one p.put q.put

@@ -1,11 +1,12 @@
 // A line as far as its bytes have come: its first word, and the numbers after it, the first of which may have flags. The word's
 // bytes and the numbers go to lent runs; what is held by value says how far each has come.
-ghost use Rattle.std.specs.Prelude.{◌≡◌};
+ghost use Rattle.std.specs.Prelude.{◌≡◌, [], ◌∷◌};
 ghost use Rattle.text.specs.Cells.{fed};
+ghost use Rattle.text.specs.Puts.{Put};
 ghost use Rattle.hearing.specs.Lines.{heard, unheard, number_with, heard_byte, line_in};
 
 use crate::flags::{Flags, flags_byte, has_colon};
-use text::put::put_byte;
+use text::put::Out;
 use text::row::{Row, row_byte, row_next, row_start};
 
 // What has been heard of a line: whether a blank has ended its first word, how many of that word's bytes stand in
@@ -59,6 +60,18 @@ fn number_byte(line: Line, byte: u8) -> Line
     }
 }
 
+// Puts one byte of the word behind those that stand in the run, where there is a place, and answers how many stand there then.
+fn name_byte(byte: u8, name: &mut [u8], length: usize) -> usize
+    ensures { Put name.old length (byte ∷ []) name.new result }
+{
+    let mut out = Out {
+        bytes: name,
+        at: length,
+    };
+    out.byte(byte);
+    out.at
+}
+
 // Gives the line with one byte more, which is no line's end: a blank ends the word or a number, any other byte
 // belongs to it.
 #[tactic(auto, unfolding(crate::specs::Lines::heard_byte))]
@@ -77,7 +90,7 @@ fn line_byte(line: Line, byte: u8, name: &mut [u8], numbers: &mut [u32]) -> Line
             ..line
         },
         (false, _) => Line {
-            length: put_byte(byte, name, line.length),
+            length: name_byte(byte, name, line.length),
             ..line
         },
     }

@@ -1,8 +1,8 @@
--- Any two results that a public function's contract allows for the same arguments are equal, and so are any two runs of bytes that it leaves:
--- a contract says which bytes are put and which place is the next (`PutFew`). `Learnt` is what a caller learns of a call, as the checker
+-- Any two places that a public function's contract allows it to leave for the same arguments are equal, and so are any two runs of bytes:
+-- a contract says which bytes are put, from which place on (`PutFew`). `Learnt` is what a caller learns of a call, as the checker
 -- reads it off the contract's `ensures`; `ps` and `r` are its parameters' and its result's types.
 -- Assumes nothing.
-use Rattle.ranges.proofs.OneAnswer.{OneAnswer, OneRun}
+use Rattle.ranges.proofs.OneAnswer.{OneRun}
 use Rattle.text.proofs.Determined.{place_one, bytes_one}
 use Rattle.phrases.proofs.say.put_spaced.Kinds as put_spaced_kinds
 use Rattle.phrases.proofs.say.put_spaced.Reads as put_spaced_reads
@@ -31,80 +31,80 @@ use Rattle.phrases.proofs.say.put_verdict.Reads as put_verdict_reads
 use Rattle.phrases.proofs.say.put_part.Kinds as put_part_kinds
 use Rattle.phrases.proofs.say.put_part.Reads as put_part_reads
 
-pub put_spaced_one : OneAnswer 1 put_spaced_kinds.ps put_spaced_kinds.r put_spaced_reads.Learnt
-put_spaced_one κs a x y e g p q = place_one p.puts q.puts
+pub put_spaced_one : OneRun 2 put_spaced_kinds.ps put_spaced_kinds.r put_spaced_reads.Learnt (λ κs e. e.1.0.now.at)
+put_spaced_one κs a x y e g p q = place_one p.puts.put q.puts.put
 
-pub put_spaced_bytes_one : OneRun 1 put_spaced_kinds.ps put_spaced_kinds.r put_spaced_reads.Learnt (λ κs e. e.1.0.now)
-put_spaced_bytes_one κs a x y e g p q = bytes_one p.puts q.puts
+pub put_spaced_bytes_one : OneRun 2 put_spaced_kinds.ps put_spaced_kinds.r put_spaced_reads.Learnt (λ κs e. e.1.0.now.bytes.now)
+put_spaced_bytes_one κs a x y e g p q = bytes_one p.puts.put q.puts.put
 
-pub put_all_one : OneAnswer 2 put_all_kinds.ps put_all_kinds.r put_all_reads.Learnt
-put_all_one κs a x y e g p q = place_one p.puts q.puts
+pub put_all_one : OneRun 3 put_all_kinds.ps put_all_kinds.r put_all_reads.Learnt (λ κs e. e.1.0.now.at)
+put_all_one κs a x y e g p q = place_one p.puts.put q.puts.put
 
-pub put_all_bytes_one : OneRun 2 put_all_kinds.ps put_all_kinds.r put_all_reads.Learnt (λ κs e. e.1.0.now)
-put_all_bytes_one κs a x y e g p q = bytes_one p.puts q.puts
+pub put_all_bytes_one : OneRun 3 put_all_kinds.ps put_all_kinds.r put_all_reads.Learnt (λ κs e. e.1.0.now.bytes.now)
+put_all_bytes_one κs a x y e g p q = bytes_one p.puts.put q.puts.put
 
-pub put_table_one : OneAnswer 2 put_table_kinds.ps put_table_kinds.r put_table_reads.Learnt
-put_table_one κs a x y e g p q = place_one p.puts q.puts
+pub put_table_one : OneRun 3 put_table_kinds.ps put_table_kinds.r put_table_reads.Learnt (λ κs e. e.1.0.now.at)
+put_table_one κs a x y e g p q = place_one p.puts.put q.puts.put
 
-pub put_table_bytes_one : OneRun 2 put_table_kinds.ps put_table_kinds.r put_table_reads.Learnt (λ κs e. e.1.0.now)
-put_table_bytes_one κs a x y e g p q = bytes_one p.puts q.puts
+pub put_table_bytes_one : OneRun 3 put_table_kinds.ps put_table_kinds.r put_table_reads.Learnt (λ κs e. e.1.0.now.bytes.now)
+put_table_bytes_one κs a x y e g p q = bytes_one p.puts.put q.puts.put
 
-pub put_bad_one : OneAnswer 1 put_bad_kinds.ps put_bad_kinds.r put_bad_reads.Learnt
-put_bad_one κs a x y e g p q = place_one p.puts q.puts
+pub put_bad_one : OneRun 2 put_bad_kinds.ps put_bad_kinds.r put_bad_reads.Learnt (λ κs e. e.0.now.at)
+put_bad_one κs a x y e g p q = place_one p.puts.put q.puts.put
 
-pub put_bad_bytes_one : OneRun 1 put_bad_kinds.ps put_bad_kinds.r put_bad_reads.Learnt (λ κs e. e.0.now)
-put_bad_bytes_one κs a x y e g p q = bytes_one p.puts q.puts
+pub put_bad_bytes_one : OneRun 2 put_bad_kinds.ps put_bad_kinds.r put_bad_reads.Learnt (λ κs e. e.0.now.bytes.now)
+put_bad_bytes_one κs a x y e g p q = bytes_one p.puts.put q.puts.put
 
-pub put_refused_one : OneAnswer 1 put_refused_kinds.ps put_refused_kinds.r put_refused_reads.Learnt
-put_refused_one κs a x y e g p q = place_one p.puts q.puts
+pub put_refused_one : OneRun 2 put_refused_kinds.ps put_refused_kinds.r put_refused_reads.Learnt (λ κs e. e.1.0.now.at)
+put_refused_one κs a x y e g p q = place_one p.puts.put q.puts.put
 
-pub put_refused_bytes_one : OneRun 1 put_refused_kinds.ps put_refused_kinds.r put_refused_reads.Learnt (λ κs e. e.1.0.now)
-put_refused_bytes_one κs a x y e g p q = bytes_one p.puts q.puts
+pub put_refused_bytes_one : OneRun 2 put_refused_kinds.ps put_refused_kinds.r put_refused_reads.Learnt (λ κs e. e.1.0.now.bytes.now)
+put_refused_bytes_one κs a x y e g p q = bytes_one p.puts.put q.puts.put
 
-pub put_count_one : OneAnswer 1 put_count_kinds.ps put_count_kinds.r put_count_reads.Learnt
-put_count_one κs a x y e g p q = place_one p.puts q.puts
+pub put_count_one : OneRun 2 put_count_kinds.ps put_count_kinds.r put_count_reads.Learnt (λ κs e. e.1.0.now.at)
+put_count_one κs a x y e g p q = place_one p.puts.put q.puts.put
 
-pub put_count_bytes_one : OneRun 1 put_count_kinds.ps put_count_kinds.r put_count_reads.Learnt (λ κs e. e.1.0.now)
-put_count_bytes_one κs a x y e g p q = bytes_one p.puts q.puts
+pub put_count_bytes_one : OneRun 2 put_count_kinds.ps put_count_kinds.r put_count_reads.Learnt (λ κs e. e.1.0.now.bytes.now)
+put_count_bytes_one κs a x y e g p q = bytes_one p.puts.put q.puts.put
 
-pub put_bounds_one : OneAnswer 1 put_bounds_kinds.ps put_bounds_kinds.r put_bounds_reads.Learnt
-put_bounds_one κs a x y e g p q = place_one p.puts q.puts
+pub put_bounds_one : OneRun 2 put_bounds_kinds.ps put_bounds_kinds.r put_bounds_reads.Learnt (λ κs e. e.1.0.now.at)
+put_bounds_one κs a x y e g p q = place_one p.puts.put q.puts.put
 
-pub put_bounds_bytes_one : OneRun 1 put_bounds_kinds.ps put_bounds_kinds.r put_bounds_reads.Learnt (λ κs e. e.1.0.now)
-put_bounds_bytes_one κs a x y e g p q = bytes_one p.puts q.puts
+pub put_bounds_bytes_one : OneRun 2 put_bounds_kinds.ps put_bounds_kinds.r put_bounds_reads.Learnt (λ κs e. e.1.0.now.bytes.now)
+put_bounds_bytes_one κs a x y e g p q = bytes_one p.puts.put q.puts.put
 
-pub put_match_one : OneAnswer 1 put_match_kinds.ps put_match_kinds.r put_match_reads.Learnt
-put_match_one κs a x y e g p q = place_one p.puts q.puts
+pub put_match_one : OneRun 2 put_match_kinds.ps put_match_kinds.r put_match_reads.Learnt (λ κs e. e.1.0.now.at)
+put_match_one κs a x y e g p q = place_one p.puts.put q.puts.put
 
-pub put_match_bytes_one : OneRun 1 put_match_kinds.ps put_match_kinds.r put_match_reads.Learnt (λ κs e. e.1.0.now)
-put_match_bytes_one κs a x y e g p q = bytes_one p.puts q.puts
+pub put_match_bytes_one : OneRun 2 put_match_kinds.ps put_match_kinds.r put_match_reads.Learnt (λ κs e. e.1.0.now.bytes.now)
+put_match_bytes_one κs a x y e g p q = bytes_one p.puts.put q.puts.put
 
-pub put_pair_one : OneAnswer 1 put_pair_kinds.ps put_pair_kinds.r put_pair_reads.Learnt
-put_pair_one κs a x y e g p q = place_one p.puts q.puts
+pub put_pair_one : OneRun 2 put_pair_kinds.ps put_pair_kinds.r put_pair_reads.Learnt (λ κs e. e.1.0.now.at)
+put_pair_one κs a x y e g p q = place_one p.puts.put q.puts.put
 
-pub put_pair_bytes_one : OneRun 1 put_pair_kinds.ps put_pair_kinds.r put_pair_reads.Learnt (λ κs e. e.1.0.now)
-put_pair_bytes_one κs a x y e g p q = bytes_one p.puts q.puts
+pub put_pair_bytes_one : OneRun 2 put_pair_kinds.ps put_pair_kinds.r put_pair_reads.Learnt (λ κs e. e.1.0.now.bytes.now)
+put_pair_bytes_one κs a x y e g p q = bytes_one p.puts.put q.puts.put
 
-pub put_looked_one : OneAnswer 1 put_looked_kinds.ps put_looked_kinds.r put_looked_reads.Learnt
-put_looked_one κs a x y e g p q = place_one p.puts q.puts
+pub put_looked_one : OneRun 2 put_looked_kinds.ps put_looked_kinds.r put_looked_reads.Learnt (λ κs e. e.1.0.now.at)
+put_looked_one κs a x y e g p q = place_one p.puts.put q.puts.put
 
-pub put_looked_bytes_one : OneRun 1 put_looked_kinds.ps put_looked_kinds.r put_looked_reads.Learnt (λ κs e. e.1.0.now)
-put_looked_bytes_one κs a x y e g p q = bytes_one p.puts q.puts
+pub put_looked_bytes_one : OneRun 2 put_looked_kinds.ps put_looked_kinds.r put_looked_reads.Learnt (λ κs e. e.1.0.now.bytes.now)
+put_looked_bytes_one κs a x y e g p q = bytes_one p.puts.put q.puts.put
 
-pub put_spot_one : OneAnswer 1 put_spot_kinds.ps put_spot_kinds.r put_spot_reads.Learnt
-put_spot_one κs a x y e g p q = place_one p.puts q.puts
+pub put_spot_one : OneRun 2 put_spot_kinds.ps put_spot_kinds.r put_spot_reads.Learnt (λ κs e. e.1.0.now.at)
+put_spot_one κs a x y e g p q = place_one p.puts.put q.puts.put
 
-pub put_spot_bytes_one : OneRun 1 put_spot_kinds.ps put_spot_kinds.r put_spot_reads.Learnt (λ κs e. e.1.0.now)
-put_spot_bytes_one κs a x y e g p q = bytes_one p.puts q.puts
+pub put_spot_bytes_one : OneRun 2 put_spot_kinds.ps put_spot_kinds.r put_spot_reads.Learnt (λ κs e. e.1.0.now.bytes.now)
+put_spot_bytes_one κs a x y e g p q = bytes_one p.puts.put q.puts.put
 
-pub put_verdict_one : OneAnswer 1 put_verdict_kinds.ps put_verdict_kinds.r put_verdict_reads.Learnt
-put_verdict_one κs a x y e g p q = place_one p.puts q.puts
+pub put_verdict_one : OneRun 2 put_verdict_kinds.ps put_verdict_kinds.r put_verdict_reads.Learnt (λ κs e. e.1.0.now.at)
+put_verdict_one κs a x y e g p q = place_one p.puts.put q.puts.put
 
-pub put_verdict_bytes_one : OneRun 1 put_verdict_kinds.ps put_verdict_kinds.r put_verdict_reads.Learnt (λ κs e. e.1.0.now)
-put_verdict_bytes_one κs a x y e g p q = bytes_one p.puts q.puts
+pub put_verdict_bytes_one : OneRun 2 put_verdict_kinds.ps put_verdict_kinds.r put_verdict_reads.Learnt (λ κs e. e.1.0.now.bytes.now)
+put_verdict_bytes_one κs a x y e g p q = bytes_one p.puts.put q.puts.put
 
-pub put_part_one : OneAnswer 1 put_part_kinds.ps put_part_kinds.r put_part_reads.Learnt
-put_part_one κs a x y e g p q = place_one p.puts q.puts
+pub put_part_one : OneRun 2 put_part_kinds.ps put_part_kinds.r put_part_reads.Learnt (λ κs e. e.1.0.now.at)
+put_part_one κs a x y e g p q = place_one p.puts.put q.puts.put
 
-pub put_part_bytes_one : OneRun 1 put_part_kinds.ps put_part_kinds.r put_part_reads.Learnt (λ κs e. e.1.0.now)
-put_part_bytes_one κs a x y e g p q = bytes_one p.puts q.puts
+pub put_part_bytes_one : OneRun 2 put_part_kinds.ps put_part_kinds.r put_part_reads.Learnt (λ κs e. e.1.0.now.bytes.now)
+put_part_bytes_one κs a x y e g p q = bytes_one p.puts.put q.puts.put

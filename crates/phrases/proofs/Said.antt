@@ -1,7 +1,6 @@
 -- Laws of answers as text (`specs/Said.antt`): numbers put one by one, each after a blank, as `put_all` puts those of a run and
 -- `put_table` those of a table.
---     first-none, first_more, first-all      the first i are put: none of them, one more, all
---     first_long                             the run of bytes keeps its length
+--     first_more      where the first i are put, one more
 -- Assumes nothing.
 use Prim.Native.Nat.{ℕ, ◌+◌, ◌*◌, ◌≤◌, ◌<◌}
 use mathlib.Core.List.{List, [], ◌∷◌, ◌++◌, append_assoc, append-nil}
@@ -9,11 +8,10 @@ use mathlib.Core.Path.{◌≡◌, refl, sym, ap, ◌∙◌}
 use native.Mathlib.Omega.{arith}
 use native.Mathlib.Numerals.{add-one}
 use lib.ListN.{length, get_or, take}
-use lib.Seq.{take-suc, take_all}
-use Rattle.text.proofs.Puts.{put_no_byte, put_long}
+use lib.Seq.{take-suc}
 use Rattle.phrases.specs.Said.{spaced, all_spaced}
-use Rattle.phrases.specs.Few.{PutFew, PutAll}
-use Rattle.phrases.proofs.Few.{few_text, few_then, few_more}
+use Rattle.phrases.specs.Few.{PutFew}
+use Rattle.phrases.proofs.Few.{few_then, few_more}
 
 all_append : (xs ys : List ℕ) → all_spaced (xs ++ ys) ≡ all_spaced xs ++ all_spaced ys
 all_append [] ys = refl
@@ -28,15 +26,6 @@ pub record PutFirst (ns : List ℕ) (i : ℕ) (out : List ℕ) (at : ℕ) (after
   pub within : i ≤ length ns
   pub put : PutFew (21 * i) out at (all_spaced (take i ns)) after next
 
-pub first-none : {ns out : List ℕ} {at : ℕ} → PutFirst ns 0 out at out at
-first-none = record { within = omega arith; put = few_text 0 (omega arith) put_no_byte }
-
 module _ {ns : List ℕ} {i : ℕ} {out : List ℕ} {at : ℕ} {after : List ℕ} {next : ℕ} (first : PutFirst ns i out at after next) where
   pub first_more : i < length ns → {last : List ℕ} {end : ℕ} → PutFew 21 after next (spaced (get_or ns i 0)) last end → PutFirst ns (i + 1) out at last end
   first_more lt more = record { within = omega arith; put = rw (all_more ns i lt) (few_more (omega arith) (few_then first.put more)) }
-
-  pub first-all : length ns ≤ i → PutAll ns out at after next
-  first-all past = rw (take_all i ns past) at (few_more {n = 21 * length ns} (omega arith) first.put)
-
-  pub first_long : length after ≡ length out
-  first_long = put_long first.put.puts

@@ -1,23 +1,14 @@
 -- What is answered, as bytes: a word, and numbers each after a blank. Each answer of the library in its words.
 -- Assumes nothing: these are definitions.
-use Rattle.std.specs.Prelude.{ℕ, Bool, true, false, List, [], ◌∷◌, ◌++◌}
+use Rattle.std.specs.Prelude.{ℕ, ◌×◌, Bool, true, false, List, [], ◌∷◌, ◌++◌, Option, None, Some, Result, Ok, Err}
+use Rattle.ranges.specs.Refusals.{number_of}
 use Rattle.ranges.specs.declared.refusal.Refusal.{Refusal}
-use Rattle.ranges.specs.declared.refusal.Count.{Count}
-use Rattle.ranges.specs.declared.refusal.Count.TheVariants.{Is, Refused}
 use Rattle.ranges.specs.declared.prefix.Bounds.{Bounds}
-use Rattle.ranges.specs.declared.prefix.Bounds.TheVariants.{Are, Refused as NoBounds}
 use Rattle.ranges.specs.declared.spot.Spot.{Spot}
 use Rattle.ranges.specs.declared.spot.Spot.TheVariants.{Below, AtLow, Between, AtHigh, AtBoth, Above}
-use Rattle.lists.specs.declared.scan.Match.{Match}
-use Rattle.lists.specs.declared.scan.Match.TheVariants.{Rule, Nothing, Refused as NoMatch}
-use Rattle.lists.specs.declared.independence.Pair.{Pair}
-use Rattle.lists.specs.declared.independence.Pair.TheVariants.{Independent, Both, Refused as NoPair}
 use Rattle.lookup.specs.declared.lookup.Looked.{Looked}
-use Rattle.lookup.specs.declared.lookup.Looked.TheVariants.{Rule as Found, Nothing as NotFound, Refused as NoLook}
-use Rattle.auditing.specs.declared.audit.Verdict.{Verdict}
-use Rattle.auditing.specs.declared.audit.Verdict.TheVariants.{Yes, No, Refused as NoVerdict}
+use Rattle.lookup.specs.declared.lookup.Match.{Match}
 use Rattle.tables.specs.declared.report.Part.{Part}
-use Rattle.tables.specs.declared.report.Part.TheVariants.{Is as PartIs, Refused as NoPart}
 use Rattle.text.specs.Texts.{bytes}
 use Rattle.text.specs.Decimals.{decimal_of}
 
@@ -32,40 +23,44 @@ all_spaced (n ∷ ns) = spaced n ++ all_spaced ns
 
 -- refused NUMBER FIRST SECOND
 abbrev pub refusal_said : Refusal → List ℕ
-refusal_said x = bytes "refused" ++ spaced x.number ++ spaced x.at ++ spaced x.then
+refusal_said x = bytes "refused" ++ spaced (number_of x.cause) ++ spaced x.at ++ spaced x.then
 
 -- ok N, or the refusal
-abbrev pub count_said : Count → List ℕ
-count_said (Is k) = bytes "ok" ++ spaced k
-count_said (Refused x) = refusal_said x
+abbrev pub count_said : Result ℕ Refusal → List ℕ
+count_said (Ok k) = bytes "ok" ++ spaced k
+count_said (Err x) = refusal_said x
 
 -- ok LOW HIGH, or the refusal
-abbrev pub bounds_said : Bounds → List ℕ
-bounds_said (Are low high) = bytes "ok" ++ spaced low ++ spaced high
-bounds_said (NoBounds x) = refusal_said x
+abbrev pub bounds_said : Result Bounds Refusal → List ℕ
+bounds_said (Ok b) = bytes "ok" ++ spaced b.low ++ spaced b.high
+bounds_said (Err x) = refusal_said x
 
 -- ok RULE, ok none, or the refusal
-abbrev pub match_said : Match → List ℕ
-match_said (Rule i) = bytes "ok" ++ spaced i
-match_said Nothing = bytes "ok none"
-match_said (NoMatch x) = refusal_said x
+abbrev pub match_said : Result (Option ℕ) Refusal → List ℕ
+match_said (Ok (Some i)) = bytes "ok" ++ spaced i
+match_said (Ok None) = bytes "ok none"
+match_said (Err x) = refusal_said x
 
 -- ok yes, ok no I J, or the refusal
-abbrev pub pair_said : Pair → List ℕ
-pair_said Independent = bytes "ok yes"
-pair_said (Both i j) = bytes "ok no" ++ spaced i ++ spaced j
-pair_said (NoPair x) = refusal_said x
+abbrev pub pair_said : Result (Option (ℕ × ℕ)) Refusal → List ℕ
+pair_said (Ok None) = bytes "ok yes"
+pair_said (Ok (Some p)) = bytes "ok no" ++ spaced p.0 ++ spaced p.1
+pair_said (Err x) = refusal_said x
 
 -- at an edge, or not
 abbrev pub edge_said : Bool → List ℕ
 edge_said true = bytes " edge"
 edge_said false = bytes " plain"
 
--- ok RULE TESTS edge, ok RULE TESTS plain, ok none TESTS plain, or the refusal
-abbrev pub found_said : Looked → List ℕ
-found_said (Found i t e) = (bytes "ok" ++ spaced i ++ spaced t) ++ edge_said e
-found_said (NotFound t) = (bytes "ok none" ++ spaced t) ++ edge_said false
-found_said (NoLook x) = refusal_said x
+-- ok RULE TESTS edge, ok RULE TESTS plain, ok none TESTS plain
+abbrev pub rule_said : Option Match → ℕ → List ℕ
+rule_said (Some m) t = (bytes "ok" ++ spaced m.rule ++ spaced t) ++ edge_said m.edge
+rule_said None t = (bytes "ok none" ++ spaced t) ++ edge_said false
+
+-- the same, or the refusal
+abbrev pub found_said : Result Looked Refusal → List ℕ
+found_said (Ok looked) = rule_said looked.found looked.tests
+found_said (Err x) = refusal_said x
 
 -- ok below, ok low, ok between, ok high, ok both, ok above
 abbrev pub spot_said : Spot → List ℕ
@@ -77,12 +72,12 @@ spot_said AtBoth = bytes "ok both"
 spot_said Above = bytes "ok above"
 
 -- ok yes, ok no, or the refusal
-abbrev pub verdict_said : Verdict → List ℕ
-verdict_said Yes = bytes "ok yes"
-verdict_said No = bytes "ok no"
-verdict_said (NoVerdict x) = refusal_said x
+abbrev pub verdict_said : Result Bool Refusal → List ℕ
+verdict_said (Ok true) = bytes "ok yes"
+verdict_said (Ok false) = bytes "ok no"
+verdict_said (Err x) = refusal_said x
 
 -- ok SIZE SMALLEST, or the refusal
-abbrev pub part_said : Part → List ℕ
-part_said (PartIs size least) = bytes "ok" ++ spaced size ++ spaced least
-part_said (NoPart x) = refusal_said x
+abbrev pub part_said : Result Part Refusal → List ℕ
+part_said (Ok p) = bytes "ok" ++ spaced p.size ++ spaced p.least
+part_said (Err x) = refusal_said x

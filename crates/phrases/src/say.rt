@@ -1,185 +1,179 @@
-// Answers as text, put at a place of a lent run: each function answers the place after it. An answer is a word and
-// numbers, each after a blank. A number takes at most 21 bytes; an answer without a table or a run has at most 70.
+// Answers as text, put into a lent run of bytes that holds its place. An answer is a word and numbers, each after a blank.
+// A number takes at most 21 bytes; an answer without a table or a run has at most 70.
 ghost use Rattle.std.specs.Prelude.{◌+◌, ◌++◌, length};
 ghost use Rattle.text.specs.Texts.{bytes};
 ghost use Rattle.phrases.specs.Few.{PutFew, PutAll};
 ghost use Rattle.phrases.specs.Said.{spaced, refusal_said, count_said, bounds_said, match_said, pair_said, edge_said, found_said, spot_said, verdict_said, part_said};
 
-use auditing::audit::Verdict;
-use lists::independence::Pair;
-use lists::scan::Match;
-use lookup::lookup::Looked;
+use lookup::lookup::{Looked, Match};
 use ranges::prefix::Bounds;
-use ranges::refusal::{Count, Refusal};
+use ranges::refusal::Refusal;
 use ranges::spot::Spot;
 use tables::report::Part;
-use text::put::{put_byte, put_number, put_text};
+use text::put::Out;
 
 // Puts a blank and a number.
-pub fn put_spaced(n: u64, out: &mut [u8], at: usize) -> usize
-    ensures { PutFew 21 out.old at (spaced n) out.new result }
+pub fn put_spaced(n: u64, out: &mut Out)
+    ensures { PutFew 21 out.old (spaced n) out.new }
 {
-    let next = put_byte(b' ', out, at);
-    put_number(n, out, next)
+    out.byte(b' ');
+    out.number(n);
 }
 
 // Puts each number of a run after a blank.
-pub fn put_all(numbers: &[u32], out: &mut [u8], at: usize) -> usize
-    ensures { PutAll numbers.now out.old at out.new result }
+pub fn put_all(numbers: &[u32], out: &mut Out)
+    ensures { PutAll numbers.now out.old out.new }
 {
-    let mut place = at;
-    let mut i = 0;
-    while i < numbers.len() {
-        place = put_spaced(numbers[i] as u64, out, place);
-        i += 1;
+    for n in numbers {
+        put_spaced(*n as u64, out);
     }
-    place
 }
 
-// Puts each number of a table after a blank.
-pub fn put_table(numbers: &[u16], out: &mut [u8], at: usize) -> usize
-    ensures { PutAll numbers.now out.old at out.new result }
+// Puts each number of a table after a blank. Not one function with `put_all` over `T: Into<u64>`: what `into` gives is a relation, so that
+// the contract could not name the bytes by the numbers alone.
+pub fn put_table(numbers: &[u16], out: &mut Out)
+    ensures { PutAll numbers.now out.old out.new }
 {
-    let mut place = at;
-    let mut i = 0;
-    while i < numbers.len() {
-        place = put_spaced(numbers[i] as u64, out, place);
-        i += 1;
+    for n in numbers {
+        put_spaced(*n as u64, out);
     }
-    place
 }
 
 // Puts the answer to a line that is no call.
-pub fn put_bad(out: &mut [u8], at: usize) -> usize
-    ensures { PutFew 70 out.old at (bytes "bad") out.new result }
+pub fn put_bad(out: &mut Out)
+    ensures { PutFew 70 out.old (bytes "bad") out.new }
 {
-    put_text(b"bad", out, at)
+    out.text(b"bad");
 }
 
 // Puts a text and a number.
-fn put_one(text: &[u8], n: u64, out: &mut [u8], at: usize) -> usize
-    ensures { PutFew (length text.now + 21) out.old at (text.now ++ spaced n) out.new result }
+fn put_one(text: &[u8], n: u64, out: &mut Out)
+    ensures { PutFew (length text.now + 21) out.old (text.now ++ spaced n) out.new }
 {
-    let next = put_text(text, out, at);
-    put_spaced(n, out, next)
+    out.text(text);
+    put_spaced(n, out);
 }
 
 // Puts a text and two numbers.
-fn put_two(text: &[u8], m: u64, n: u64, out: &mut [u8], at: usize) -> usize
-    ensures { PutFew (length text.now + 42) out.old at (text.now ++ spaced m ++ spaced n) out.new result }
+fn put_two(text: &[u8], m: u64, n: u64, out: &mut Out)
+    ensures { PutFew (length text.now + 42) out.old (text.now ++ spaced m ++ spaced n) out.new }
 {
-    let next = put_one(text, m, out, at);
-    put_spaced(n, out, next)
+    put_one(text, m, out);
+    put_spaced(n, out);
 }
 
 // Puts a refusal: its number and its place of two numbers.
-pub fn put_refused(x: Refusal, out: &mut [u8], at: usize) -> usize
-    ensures { PutFew 70 out.old at (refusal_said x) out.new result }
+pub fn put_refused(x: Refusal, out: &mut Out)
+    ensures { PutFew 70 out.old (refusal_said x) out.new }
 {
-    let next = put_two(b"refused", x.number as u64, x.at as u64, out, at);
-    put_spaced(x.then as u64, out, next)
+    put_two(b"refused", x.cause.number() as u64, x.at as u64, out);
+    put_spaced(x.then as u64, out);
 }
 
 // Puts what is counted, or the refusal.
-pub fn put_count(count: Count, out: &mut [u8], at: usize) -> usize
-    ensures { PutFew 70 out.old at (count_said count) out.new result }
+pub fn put_count(count: Result<usize, Refusal>, out: &mut Out)
+    ensures { PutFew 70 out.old (count_said count) out.new }
 {
     match count {
-        Count::Is(k) => put_one(b"ok", k as u64, out, at),
-        Count::Refused(x) => put_refused(x, out, at),
+        Ok(k) => put_one(b"ok", k as u64, out),
+        Err(x) => put_refused(x, out),
     }
 }
 
 // Puts a range's low and high end, or the refusal.
-pub fn put_bounds(bounds: Bounds, out: &mut [u8], at: usize) -> usize
-    ensures { PutFew 70 out.old at (bounds_said bounds) out.new result }
+pub fn put_bounds(bounds: Result<Bounds, Refusal>, out: &mut Out)
+    ensures { PutFew 70 out.old (bounds_said bounds) out.new }
 {
     match bounds {
-        Bounds::Are(low, high) => put_two(b"ok", low as u64, high as u64, out, at),
-        Bounds::Refused(x) => put_refused(x, out, at),
+        Ok(b) => put_two(b"ok", b.low as u64, b.high as u64, out),
+        Err(x) => put_refused(x, out),
     }
 }
 
 // Puts the first match, or none, or the refusal.
-pub fn put_match(found: Match, out: &mut [u8], at: usize) -> usize
-    ensures { PutFew 70 out.old at (match_said found) out.new result }
+pub fn put_match(found: Result<Option<usize>, Refusal>, out: &mut Out)
+    ensures { PutFew 70 out.old (match_said found) out.new }
 {
     match found {
-        Match::Rule(i) => put_one(b"ok", i as u64, out, at),
-        Match::Nothing => put_text(b"ok none", out, at),
-        Match::Refused(x) => put_refused(x, out, at),
+        Ok(Some(i)) => put_one(b"ok", i as u64, out),
+        Ok(None) => out.text(b"ok none"),
+        Err(x) => put_refused(x, out),
     }
 }
 
 // Puts yes, or no and the pair of rules, or the refusal.
-pub fn put_pair(pair: Pair, out: &mut [u8], at: usize) -> usize
-    ensures { PutFew 70 out.old at (pair_said pair) out.new result }
+pub fn put_pair(pair: Result<Option<(usize, usize)>, Refusal>, out: &mut Out)
+    ensures { PutFew 70 out.old (pair_said pair) out.new }
 {
     match pair {
-        Pair::Independent => put_text(b"ok yes", out, at),
-        Pair::Both(i, j) => put_two(b"ok no", i as u64, j as u64, out, at),
-        Pair::Refused(x) => put_refused(x, out, at),
+        Ok(None) => out.text(b"ok yes"),
+        Ok(Some((i, j))) => put_two(b"ok no", i as u64, j as u64, out),
+        Err(x) => put_refused(x, out),
     }
 }
 
 // Puts edge or plain after a blank.
-fn put_edge(edge: bool, out: &mut [u8], at: usize) -> usize
-    ensures { PutFew 6 out.old at (edge_said edge) out.new result }
+fn put_edge(edge: bool, out: &mut Out)
+    ensures { PutFew 6 out.old (edge_said edge) out.new }
 {
     if edge {
-        return put_text(b" edge", out, at);
+        out.text(b" edge");
+    } else {
+        out.text(b" plain");
     }
-    put_text(b" plain", out, at)
 }
 
 // Puts the first match, or none, the tests made, and whether the match is at an edge, or the refusal.
-pub fn put_looked(looked: Looked, out: &mut [u8], at: usize) -> usize
-    ensures { PutFew 70 out.old at (found_said looked) out.new result }
+pub fn put_looked(looked: Result<Looked, Refusal>, out: &mut Out)
+    ensures { PutFew 70 out.old (found_said looked) out.new }
 {
     match looked {
-        Looked::Rule { rule, tests, edge } => {
-            let next = put_two(b"ok", rule as u64, tests as u64, out, at);
-            put_edge(edge, out, next)
+        Ok(Looked {
+            found: Some(Match { rule, edge }),
+            tests,
+        }) => {
+            put_two(b"ok", rule as u64, tests as u64, out);
+            put_edge(edge, out);
         }
-        Looked::Nothing { tests } => {
-            let next = put_one(b"ok none", tests as u64, out, at);
-            put_edge(false, out, next)
+        Ok(Looked { found: None, tests }) => {
+            put_one(b"ok none", tests as u64, out);
+            put_edge(false, out);
         }
-        Looked::Refused(x) => put_refused(x, out, at),
+        Err(x) => put_refused(x, out),
     }
 }
 
 // Puts where a number lies as against the ends of a range.
-pub fn put_spot(spot: Spot, out: &mut [u8], at: usize) -> usize
-    ensures { PutFew 70 out.old at (spot_said spot) out.new result }
+pub fn put_spot(spot: Spot, out: &mut Out)
+    ensures { PutFew 70 out.old (spot_said spot) out.new }
 {
     match spot {
-        Spot::Below => put_text(b"ok below", out, at),
-        Spot::AtLow => put_text(b"ok low", out, at),
-        Spot::Between => put_text(b"ok between", out, at),
-        Spot::AtHigh => put_text(b"ok high", out, at),
-        Spot::AtBoth => put_text(b"ok both", out, at),
-        Spot::Above => put_text(b"ok above", out, at),
+        Spot::Below => out.text(b"ok below"),
+        Spot::AtLow => out.text(b"ok low"),
+        Spot::Between => out.text(b"ok between"),
+        Spot::AtHigh => out.text(b"ok high"),
+        Spot::AtBoth => out.text(b"ok both"),
+        Spot::Above => out.text(b"ok above"),
     }
 }
 
 // Puts yes or no, or the refusal.
-pub fn put_verdict(verdict: Verdict, out: &mut [u8], at: usize) -> usize
-    ensures { PutFew 70 out.old at (verdict_said verdict) out.new result }
+pub fn put_verdict(verdict: Result<bool, Refusal>, out: &mut Out)
+    ensures { PutFew 70 out.old (verdict_said verdict) out.new }
 {
     match verdict {
-        Verdict::Yes => put_text(b"ok yes", out, at),
-        Verdict::No => put_text(b"ok no", out, at),
-        Verdict::Refused(x) => put_refused(x, out, at),
+        Ok(true) => out.text(b"ok yes"),
+        Ok(false) => out.text(b"ok no"),
+        Err(x) => put_refused(x, out),
     }
 }
 
 // Puts a partition's size and its smallest rule number, or the refusal.
-pub fn put_part(part: Part, out: &mut [u8], at: usize) -> usize
-    ensures { PutFew 70 out.old at (part_said part) out.new result }
+pub fn put_part(part: Result<Part, Refusal>, out: &mut Out)
+    ensures { PutFew 70 out.old (part_said part) out.new }
 {
     match part {
-        Part::Is { size, least } => put_two(b"ok", size as u64, least as u64, out, at),
-        Part::Refused(x) => put_refused(x, out, at),
+        Ok(p) => put_two(b"ok", p.size as u64, p.least as u64, out),
+        Err(x) => put_refused(x, out),
     }
 }

@@ -17,10 +17,8 @@ pub fn say_error(streams: Streams, what: &[u8], error: Error) {
 
 // Leaves of an error's text the system's own words, without their number.
 fn error_words(text: &str) -> &str {
-    match text.split_once(" (os error ") {
-        Some((words, _)) => words,
-        None => text,
-    }
+    text.split_once(" (os error ")
+        .map_or(text, |(words, _)| words)
 }
 
 // Notes that the reader of a stream has gone away, where that is what the system found wrong, and says whether it is.
@@ -40,7 +38,8 @@ pub fn say_bytes(streams: Streams, text: &[u8]) {
 }
 
 // Writes a text to standard output, and answers whether that went well; where it did not, says so on standard error, with
-// the words given in front, but for a reader that has gone away, which is noted.
+// the words given in front, but for a reader that has gone away, which is noted. (A bool and no `Result`: the error has been
+// said here, and none is left to hand on.)
 pub fn write_text(streams: Streams, what: &[u8], text: &[u8]) -> bool {
     match streams.output.write_all(text) {
         Ok(()) => true,

@@ -58,11 +58,10 @@ pub fn own_word(env: &impl Env, asked: bool, k: u8, run: &mut [u8]) -> io::Resul
     } else {
         k as usize + 1
     };
-    match env.arg(place, run) {
-        Ok(n) => Ok(n),
-        Err(FillError::NotPresent) => Err(io::Error::from_raw_os_error(NO_WORD)),
-        Err(FillError::TooLong) => Err(io::Error::from_raw_os_error(LONG_WORD)),
-    }
+    env.arg(place, run).map_err(|fault| match fault {
+        FillError::NotPresent => io::Error::from_raw_os_error(NO_WORD),
+        FillError::TooLong => io::Error::from_raw_os_error(LONG_WORD),
+    })
 }
 
 // Says whether own word k is the one given.

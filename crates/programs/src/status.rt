@@ -22,7 +22,8 @@ pub enum Ended {
 // The name of the descriptor on which the status is told.
 const STATUS_FILE: &str = "/dev/fd/9";
 
-// Says how a program has ended whose job was done, or was not.
+// Says how a program has ended whose job was done, or was not. (A function with a name and no `From`, as the next two:
+// docs/PROMISES.md names them, and a bool or a number does not say what it stands for.)
 pub fn ended_by(done: bool) -> Ended
     ensures { result ≡ ended_of done }
 {

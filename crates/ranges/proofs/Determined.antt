@@ -4,6 +4,8 @@
 -- Assumes nothing.
 use mathlib.Core.Path.{sym, ◌∙◌}
 use Rattle.ranges.proofs.OneAnswer.{OneAnswer, OneRun}
+use Rattle.ranges.proofs.refusal.Cause.number.Kinds as number_kinds
+use Rattle.ranges.proofs.refusal.Cause.number.Reads as number_reads
 use Rattle.ranges.proofs.refusal.refuse.Kinds as refuse_kinds
 use Rattle.ranges.proofs.refusal.refuse.Reads as refuse_reads
 use Rattle.ranges.proofs.spot.spot_of.Kinds as spot_of_kinds
@@ -30,6 +32,9 @@ use Rattle.ranges.proofs.prefix.prefix_to_range.Kinds as prefix_to_range_kinds
 use Rattle.ranges.proofs.prefix.prefix_to_range.Reads as prefix_to_range_reads
 use Rattle.ranges.proofs.expand.range_to_prefixes.Kinds as range_to_prefixes_kinds
 use Rattle.ranges.proofs.expand.range_to_prefixes.Reads as range_to_prefixes_reads
+
+pub cause_number_one : OneAnswer 0 number_kinds.ps number_kinds.r number_reads.Learnt
+cause_number_one κs a x y e g p q = p ∙ sym q
 
 pub refuse_one : OneAnswer 0 refuse_kinds.ps refuse_kinds.r refuse_reads.Learnt
 refuse_one κs a x y e g p q = p ∙ sym q

@@ -7,6 +7,7 @@ use Prim.Native.Nat.{ℕ}
 use mathlib.Core.List.{List, [], ◌∷◌, ◌++◌}
 use mathlib.Core.Path.{◌≡◌, refl, ap, ◌∙◌, subst}
 use Rattle.ranges.specs.Numbers.{all, count, least, greatest, tab}
+use Rattle.ranges.specs.Refusals.{none}
 use Rattle.ranges.specs.Sides.{end_of, past_of}
 use Rattle.lists.specs.Rules.{Rules, shape_of, flag_of, dates_in, listed, is_date, rules_in, offset_of, low_of, high_of, ends_at}
 use Rattle.lists.specs.Faults.{shape_fault, bad_rule, ends_fault, list_fault}
@@ -62,11 +63,11 @@ unfolding table_of rules_in first_fit parts start_of count tab
 b9 = refl
 
 -- ---- they keep the promise: neither list meets one of 1 to 4
-bench-stands : (list_fault bench).number ≡ 0
+bench-stands : list_fault bench ≡ none
 unfolding shape_fault ends_fault bad_rule rules_in all least tab end_of past_of flag_of dates_in is_date low_of high_of ends_at offset_of
 bench-stands = refl
 
-empty_stands : (list_fault empty).number ≡ 0
+empty_stands : list_fault empty ≡ none
 unfolding shape_fault ends_fault bad_rule rules_in least
 empty_stands = refl
 

@@ -13,26 +13,26 @@ use Rattle.sorting.proofs.choose.choose.Reads as choose_reads
 use Rattle.sorting.proofs.lay_out.lay_out.Kinds as lay_out_kinds
 use Rattle.sorting.proofs.lay_out.lay_out.Reads as lay_out_reads
 
-pub build_fault_one : OneAnswer 2 build_fault_kinds.ps build_fault_kinds.r build_fault_reads.Learnt
+pub build_fault_one : OneAnswer 3 build_fault_kinds.ps build_fault_kinds.r build_fault_reads.Learnt
 build_fault_one κs a x y e g p q = p ∙ sym q
 
-pub build_one : OneAnswer 2 build_kinds.ps build_kinds.r build_reads.Learnt
+pub build_one : OneAnswer 3 build_kinds.ps build_kinds.r build_reads.Learnt
 build_one κs a x y e g p q = p.answers ∙ sym q.answers
 
 -- the table afterwards is one too
-pub build_table_one : OneRun 2 build_kinds.ps build_kinds.r build_reads.Learnt (λ κs e. e.1.1.0.now)
+pub build_table_one : OneRun 3 build_kinds.ps build_kinds.r build_reads.Learnt (λ κs e. e.1.0.now)
 build_table_one κs a x y e g p q = p.leaves ∙ sym q.leaves
 
 -- ---- a choice, and the run afterwards
-pub choose_one : OneAnswer 2 choose_kinds.ps choose_kinds.r choose_reads.Learnt
+pub choose_one : OneAnswer 3 choose_kinds.ps choose_kinds.r choose_reads.Learnt
 choose_one κs a x y e g p q = p.answers ∙ sym q.answers
 
-pub choose_run_one : OneRun 2 choose_kinds.ps choose_kinds.r choose_reads.Learnt (λ κs e. e.1.1.0.now)
+pub choose_run_one : OneRun 3 choose_kinds.ps choose_kinds.r choose_reads.Learnt (λ κs e. e.1.0.now)
 choose_run_one κs a x y e g p q = p.leaves ∙ sym q.leaves
 
 -- ---- a laying out, and the table afterwards
-pub lay_out_one : OneAnswer 3 lay_out_kinds.ps lay_out_kinds.r lay_out_reads.Learnt
+pub lay_out_one : OneAnswer 4 lay_out_kinds.ps lay_out_kinds.r lay_out_reads.Learnt
 lay_out_one κs a x y e g p q = p.answers ∙ sym q.answers
 
-pub lay_out_table_one : OneRun 3 lay_out_kinds.ps lay_out_kinds.r lay_out_reads.Learnt (λ κs e. e.1.1.1.0.now)
+pub lay_out_table_one : OneRun 4 lay_out_kinds.ps lay_out_kinds.r lay_out_reads.Learnt (λ κs e. e.1.1.0.now)
 lay_out_table_one κs a x y e g p q = p.leaves ∙ sym q.leaves

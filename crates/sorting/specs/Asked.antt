@@ -1,10 +1,11 @@
 -- Scaffolding: only contracts of private functions cite this; nothing here has to be believed.
 -- What the crate's private functions ask of what they are handed. No public function asks anything: it refuses.
 -- Assumes nothing: these are definitions.
-use Rattle.std.specs.Prelude.{ℕ, ◌≤◌, ◌<◌, not, List, ◌≡◌, length, get_or, eqb}
+use Rattle.std.specs.Prelude.{ℕ, ◌≤◌, ◌<◌, Bool, false, not, List, ◌≡◌, length, get_or, eqb}
 use Rattle.lists.specs.Rules.{Rules, fields_of, rules_in, Shaped}
 use Rattle.lists.specs.Faults.{list_fault}
 use Rattle.ranges.specs.Numbers.{all, tab}
+use Rattle.ranges.specs.Refusals.{none}
 use Rattle.lists.specs.Limits.{most_rules}
 use Rattle.sorting.specs.FirstFit.{Choice, part_of, parts}
 use Rattle.tables.specs.Layout.{TableFor}
@@ -23,7 +24,7 @@ pub record Numbered (R : Rules) (run : List ℕ) : Type 0 where
 
 -- a list that meets none of 1 to 4, and a run that is a choice of partitions for it
 pub record Dealt (R : Rules) (run : List ℕ) : Type 0 where
-  pub no_fault : (list_fault R).number ≡ 0
+  pub no_fault : list_fault R ≡ none
   pub one_each : length run ≡ rules_in R
   pub choice : Choice R run (parts run (rules_in R))
 
@@ -47,7 +48,7 @@ pub record Fitting (run : List ℕ) : Type 0 where
   pub few : length run ≤ most_rules
   pub below : (i : ℕ) → i < length run → part_of run i < most_rules
 
--- the marks of the numbers g 0 to g (k - 1): 0 where a number is none of them
-pub record Seen (g : ℕ → ℕ) (k : ℕ) (marks : List ℕ) : Type 0 where
+-- the marks of the numbers g 0 to g (k - 1): true where a number is one of them
+pub record Seen (g : ℕ → ℕ) (k : ℕ) (marks : List Bool) : Type 0 where
   pub long : length marks ≡ most_rules
-  pub marked : (q : ℕ) → q < most_rules → eqb (get_or marks q 0) 0 ≡ all k (λ i. not (eqb (g i) q))
+  pub marked : (q : ℕ) → q < most_rules → get_or marks q false ≡ not (all k (λ i. not (eqb (g i) q)))

@@ -109,23 +109,23 @@ pub end_line_run_one : OneRun 1 end_line_kinds.ps end_line_kinds.r end_line_read
 end_line_run_one κs a x y e g p q = last_run_one p q
 
 -- ---- put: the place, and the bytes afterwards
-pub byte_place_one : OneRun 2 byte_kinds.ps byte_kinds.r byte_reads.Learnt (λ κs e. e.0.now.at)
-byte_place_one κs a x y e g p q = place_one p.put q.put
+pub put_byte_one : OneRun 2 byte_kinds.ps byte_kinds.r byte_reads.Learnt (λ κs e. e.0.now.at)
+put_byte_one κs a x y e g p q = place_one p.put q.put
 
-pub byte_run_one : OneRun 2 byte_kinds.ps byte_kinds.r byte_reads.Learnt (λ κs e. e.0.now.bytes.now)
-byte_run_one κs a x y e g p q = bytes_one p.put q.put
+pub put_byte_run_one : OneRun 2 byte_kinds.ps byte_kinds.r byte_reads.Learnt (λ κs e. e.0.now.bytes.now)
+put_byte_run_one κs a x y e g p q = bytes_one p.put q.put
 
-pub text_place_one : OneRun 3 text_kinds.ps text_kinds.r text_reads.Learnt (λ κs e. e.0.now.at)
-text_place_one κs a x y e g p q = place_one p.put q.put
+pub put_text_one : OneRun 3 text_kinds.ps text_kinds.r text_reads.Learnt (λ κs e. e.0.now.at)
+put_text_one κs a x y e g p q = place_one p.put q.put
 
-pub text_run_one : OneRun 3 text_kinds.ps text_kinds.r text_reads.Learnt (λ κs e. e.0.now.bytes.now)
-text_run_one κs a x y e g p q = bytes_one p.put q.put
+pub put_text_run_one : OneRun 3 text_kinds.ps text_kinds.r text_reads.Learnt (λ κs e. e.0.now.bytes.now)
+put_text_run_one κs a x y e g p q = bytes_one p.put q.put
 
-pub number_place_one : OneRun 2 number_kinds.ps number_kinds.r number_reads.Learnt (λ κs e. e.0.now.at)
-number_place_one κs a x y e g p q = place_one p.put q.put
+pub put_number_one : OneRun 2 number_kinds.ps number_kinds.r number_reads.Learnt (λ κs e. e.0.now.at)
+put_number_one κs a x y e g p q = place_one p.put q.put
 
-pub number_run_one : OneRun 2 number_kinds.ps number_kinds.r number_reads.Learnt (λ κs e. e.0.now.bytes.now)
-number_run_one κs a x y e g p q = bytes_one p.put q.put
+pub put_number_run_one : OneRun 2 number_kinds.ps number_kinds.r number_reads.Learnt (λ κs e. e.0.now.bytes.now)
+put_number_run_one κs a x y e g p q = bytes_one p.put q.put
 
 -- ---- row
 pub row_start_one : OneAnswer 0 row_start_kinds.ps row_start_kinds.r row_start_reads.Learnt

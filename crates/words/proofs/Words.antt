@@ -7,6 +7,7 @@ use mathlib.Core.Path.{◌≡◌, refl, ap, ◌∙◌}
 use native.Mathlib.Omega.{arith}
 use borrow.Author.Tests.{le-leb, lt-leb, eq-eqb, ne_eqb, leb-true, ltb-false}
 use lib.Dec.{ltb, leb, eqb}
+use Rattle.std.specs.Prelude.{Option, Some, None}
 use Rattle.ranges.specs.Numbers.{pick, ◌and◌}
 use Rattle.ranges.specs.Refusals.{none, refused_at, stands, TooLittleRoom}
 use Rattle.ranges.proofs.Numbers.{never, and_fails}
@@ -19,8 +20,6 @@ use Rattle.text.specs.Puts.{Put}
 use Rattle.words.specs.Limits.{list_most, choice_most, table_most, run_most, line_room, answer_most}
 use Rattle.phrases.specs.Few.{PutFew, PutAll}
 use Rattle.words.specs.Parts.{from_to, run_end, RunTo, exactly, on_end, narrow_end}
-use Rattle.words.specs.declared.part.End.{End}
-use Rattle.words.specs.declared.part.End.TheVariants.{At, Missing}
 use Rattle.words.specs.declared.choice_words.ChoiceWord.{ChoiceWord}
 use Rattle.words.specs.declared.choice_words.ChoiceWord.TheVariants.{Choose, Layout}
 use Rattle.phrases.specs.Said.{all_spaced, count_said}
@@ -43,23 +42,23 @@ counted_put word answers leaves long count text numbers =
 -- more numbers than they take
 module _ (ns : List ℕ) (over : line_room < length ns) where
   -- a run that ends at place e cannot be the last part
-  last_over : (most at : ℕ) → at + 1 + most < length ns → exactly ns 0 (narrow_end most ns at) ≡ Missing
+  last_over : (most at : ℕ) → at + 1 + most < length ns → exactly ns 0 (narrow_end most ns at) ≡ None
   last_over most at short = go (exactly ns 0 (narrow_end most ns at)) refl
     where
-      go : (x : End) → exactly ns 0 (narrow_end most ns at) ≡ x → x ≡ Missing
-      go (At e) is =
+      go : (x : Option ℕ) → exactly ns 0 (narrow_end most ns at) ≡ x → x ≡ None
+      go (Some e) is =
           let told = exact_told ns 0 (narrow_end most ns at) is in
           let run = (narrow_told most ns at told.0).run in
           absurd (omega (arith, told.1))
-      go Missing is = refl
+      go None is = refl
 
   choose_over : (dates : ℕ) → choose_said dates ns ≡ bad_said
   unfolding choose_said
   choose_over dates = go (run_end list_most ns 1) refl
     where
-      go : (x : End) → run_end list_most ns 1 ≡ x → on_end x (choose_from dates ns) bad_said ≡ bad_said
-      go (At e) is = let list = run_told list_most ns 1 is in rw (last_over choice_most e (omega arith))
-      go Missing is = refl
+      go : (x : Option ℕ) → run_end list_most ns 1 ≡ x → on_end x (choose_from dates ns) bad_said ≡ bad_said
+      go (Some e) is = let list = run_told list_most ns 1 is in rw (last_over choice_most e (omega arith))
+      go None is = refl
 
   layout_over : (dates : ℕ) → layout_said dates ns ≡ bad_said
   unfolding layout_said
@@ -68,13 +67,13 @@ module _ (ns : List ℕ) (over : line_room < length ns) where
       next : (e t : ℕ) → RunTo list_most ns 1 e → RunTo choice_most ns e t → layout_after dates ns e t ≡ bad_said
       next e t list run = rw (last_over table_most t (omega arith))
 
-      then : (e : ℕ) → RunTo list_most ns 1 e → (x : End) → narrow_end choice_most ns e ≡ x → on_end x (layout_after dates ns e) bad_said ≡ bad_said
-      then e list (At t) is = next e t list (narrow_told choice_most ns e is).run
-      then e list Missing is = refl
+      then : (e : ℕ) → RunTo list_most ns 1 e → (x : Option ℕ) → narrow_end choice_most ns e ≡ x → on_end x (layout_after dates ns e) bad_said ≡ bad_said
+      then e list (Some t) is = next e t list (narrow_told choice_most ns e is).run
+      then e list None is = refl
 
-      go : (x : End) → run_end list_most ns 1 ≡ x → on_end x (layout_from dates ns) bad_said ≡ bad_said
-      go (At e) is = then e (run_told list_most ns 1 is) (narrow_end choice_most ns e) refl
-      go Missing is = refl
+      go : (x : Option ℕ) → run_end list_most ns 1 ≡ x → on_end x (layout_from dates ns) bad_said ≡ bad_said
+      go (Some e) is = then e (run_told list_most ns 1 is) (narrow_end choice_most ns e) refl
+      go None is = refl
 
   pub choice_over : (word : ChoiceWord) (dates : ℕ) → choice_said word dates ns ≡ bad_said
   choice_over Choose dates = choose_over dates
@@ -84,9 +83,6 @@ module _ (ns : List ℕ) (over : line_room < length ns) where
 module _ (k : ℕ) (ns said : List ℕ) where
   pub exact_bad : (length ns ≡ k → ⊥) → pick (eqb (length ns) k) said bad_said ≡ bad_said
   exact_bad ne = rw (ne_eqb (length ns) k ne)
-
-  pub exact_call : length ns ≡ k → pick (eqb (length ns) k) said bad_said ≡ said
-  exact_call e = rw (eq-eqb (length ns) k e)
 
 -- ---- r2p
 -- the run keeps its length

@@ -5,10 +5,10 @@ ghost use Rattle.lists.specs.Rules.{listed};
 ghost use Rattle.phrases.specs.Few.{PutFew};
 ghost use Rattle.words.specs.Limits.{list_most, choice_most, table_most, answer_most};
 ghost use Rattle.words.specs.Parts.{RunTo, NarrowTo, Narrow};
-ghost use Rattle.words.specs.Words.{chosen_said, choose_from, choose_said, laid_said, layout_after, layout_from, layout_said, choice_said};
+ghost use Rattle.words.specs.Words.{chosen_said, choose_from, laid_said, layout_after, layout_from, choice_said};
 
 use crate::limits::{CHOICE_MOST, LIST_MOST, TABLE_MOST};
-use crate::part::{End, exact, narrow, narrow_end, run_end, shape_in};
+use crate::part::{exact, narrow, narrow_end, run_end, shape_in};
 use lists::shape::Shape;
 use phrases::say::{put_bad, put_count, put_table};
 use sorting::choose::choose;
@@ -43,13 +43,12 @@ fn put_choice(shape: Shape, list: &[u32], numbers: &[u32], out: &mut [u8], at: u
     put_chosen(shape, list, &mut run[..m], out, at)
 }
 
-// Puts what choose answers where the list ends at place e.
+// choose D LIST RUN: puts the number of partitions, or the refusal, and then the run's numbers afterwards, where the list ends at place e.
 fn choose_from(dates: u32, given: &[u32], e: usize, out: &mut [u8], at: usize) -> usize
     requires { RunTo list_most given.now 1 e }
     ensures { PutFew (answer_most - 1) out.old at (choose_from dates given.now e) out.new result }
 {
-    let end = exact(narrow_end(CHOICE_MOST, given, e), given, 0);
-    let End::At(t) = end else {
+    let Some(t) = exact(narrow_end(CHOICE_MOST, given, e), given, 0) else {
         return put_bad(out, at);
     };
     let from = e + 1;
@@ -60,17 +59,6 @@ fn choose_from(dates: u32, given: &[u32], e: usize, out: &mut [u8], at: usize) -
         out,
         at,
     )
-}
-
-// choose D LIST RUN: puts the number of partitions, or the refusal, and then the run's numbers afterwards.
-fn call_choose(dates: u32, given: &[u32], out: &mut [u8], at: usize) -> usize
-    ensures { PutFew (answer_most - 1) out.old at (choose_said dates given.now) out.new result }
-{
-    let end = run_end(LIST_MOST, given, 1);
-    let End::At(e) = end else {
-        return put_bad(out, at);
-    };
-    choose_from(dates, given, e, out, at)
 }
 
 // Puts how many partitions a choice has, or the refusal, and then the table's numbers afterwards; the library writes the table.
@@ -131,8 +119,7 @@ fn layout_after(dates: u32, given: &[u32], e: usize, t: usize, out: &mut [u8], a
     requires { RunTo list_most given.now 1 e × NarrowTo choice_most given.now e t }
     ensures { PutFew (answer_most - 1) out.old at (layout_after dates given.now e t) out.new result }
 {
-    let end = exact(narrow_end(TABLE_MOST, given, t), given, 0);
-    let End::At(u) = end else {
+    let Some(u) = exact(narrow_end(TABLE_MOST, given, t), given, 0) else {
         return put_bad(out, at);
     };
     let from = e + 1;
@@ -147,35 +134,28 @@ fn layout_after(dates: u32, given: &[u32], e: usize, t: usize, out: &mut [u8], a
     )
 }
 
-// Puts what layout answers where the list ends at place e.
+// layout D LIST RUN TABLE: puts the number of partitions, or the refusal, and then the table's numbers afterwards, where the list ends at
+// place e.
 fn layout_from(dates: u32, given: &[u32], e: usize, out: &mut [u8], at: usize) -> usize
     requires { RunTo list_most given.now 1 e }
     ensures { PutFew (answer_most - 1) out.old at (layout_from dates given.now e) out.new result }
 {
-    let end = narrow_end(CHOICE_MOST, given, e);
-    let End::At(t) = end else {
+    let Some(t) = narrow_end(CHOICE_MOST, given, e) else {
         return put_bad(out, at);
     };
     layout_after(dates, given, e, t, out, at)
 }
 
-// layout D LIST RUN TABLE: puts the number of partitions, or the refusal, and then the table's numbers afterwards.
-fn call_layout(dates: u32, given: &[u32], out: &mut [u8], at: usize) -> usize
-    ensures { PutFew (answer_most - 1) out.old at (layout_said dates given.now) out.new result }
-{
-    let end = run_end(LIST_MOST, given, 1);
-    let End::At(e) = end else {
-        return put_bad(out, at);
-    };
-    layout_from(dates, given, e, out, at)
-}
-
 // Puts what a call of a list and a choice of partitions answers.
+#[tactic(auto, using(crate::proofs::Parts::run_told), unfolding(crate::specs::Words::choose_said, crate::specs::Words::layout_said))]
 pub fn call_choice(word: ChoiceWord, dates: u32, given: &[u32], out: &mut [u8], at: usize) -> usize
     ensures { PutFew (answer_most - 1) out.old at (choice_said word dates given.now) out.new result }
 {
+    let Some(e) = run_end(LIST_MOST, given, 1) else {
+        return put_bad(out, at);
+    };
     match word {
-        ChoiceWord::Choose => call_choose(dates, given, out, at),
-        ChoiceWord::Layout => call_layout(dates, given, out, at),
+        ChoiceWord::Choose => choose_from(dates, given, e, out, at),
+        ChoiceWord::Layout => layout_from(dates, given, e, out, at),
     }
 }

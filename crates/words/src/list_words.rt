@@ -1,19 +1,20 @@
 // The calls of lists. `given` holds the line's numbers after the word: D LIST, and what follows; `dates` are the flags of D.
+// A function for each, and not one for all: they share their first lines alone, and differ in the call and in the text of its answer.
 ghost use Rattle.phrases.specs.Few.{PutFew};
 ghost use Rattle.words.specs.Words.{check_said, scan_said, independent_said};
 
-use crate::part::{End, header_of, list_end, shape_in};
+use crate::part::{header_of, list_end, shape_in};
 use lists::check::check_list;
 use lists::independence::independence;
 use lists::scan::plain_scan;
 use phrases::say::{put_bad, put_count, put_match, put_pair};
 
 // check D LIST: puts the number of rules, or the refusal.
+#[tactic(auto, using(crate::proofs::Parts::list_told))]
 pub fn call_check(dates: u32, given: &[u32], out: &mut [u8], at: usize) -> usize
     ensures { PutFew 70 out.old at (check_said dates given.now) out.new result }
 {
-    let end = list_end(given, 0);
-    let End::At(e) = end else {
+    let Some(e) = list_end(given, 0) else {
         return put_bad(out, at);
     };
     let count = check_list(shape_in(dates, given), &given[2..e]);
@@ -21,11 +22,11 @@ pub fn call_check(dates: u32, given: &[u32], out: &mut [u8], at: usize) -> usize
 }
 
 // scan D LIST HEADER: puts the first match, or none, or the refusal.
+#[tactic(auto, using(crate::proofs::Parts::list_told))]
 pub fn call_scan(dates: u32, given: &[u32], out: &mut [u8], at: usize) -> usize
     ensures { PutFew 70 out.old at (scan_said dates given.now) out.new result }
 {
-    let end = list_end(given, 8);
-    let End::At(e) = end else {
+    let Some(e) = list_end(given, 8) else {
         return put_bad(out, at);
     };
     let last = e + 8;
@@ -35,11 +36,11 @@ pub fn call_scan(dates: u32, given: &[u32], out: &mut [u8], at: usize) -> usize
 }
 
 // independent D LIST: puts yes, or no and the least pair of rules that one header fits, or the refusal.
+#[tactic(auto, using(crate::proofs::Parts::list_told))]
 pub fn call_independent(dates: u32, given: &[u32], out: &mut [u8], at: usize) -> usize
     ensures { PutFew 70 out.old at (independent_said dates given.now) out.new result }
 {
-    let end = list_end(given, 0);
-    let End::At(e) = end else {
+    let Some(e) = list_end(given, 0) else {
         return put_bad(out, at);
     };
     let pair = independence(shape_in(dates, given), &given[2..e]);

@@ -16,6 +16,7 @@ use text::put::put_text;
 
 // side D FIELD LOW HIGH NUMBER: puts where the number lies as against the ends of the range that a rule with this low and
 // high has in the field, which is one of dates where D's flag says so, whatever D is.
+#[tactic(auto, unfolding(crate::specs::Words::side_said))]
 pub fn call_side(dates: u32, given: &[u32], out: &mut [u8], at: usize) -> usize
     ensures { PutFew 70 out.old at (side_said dates given.now) out.new result }
 {
@@ -28,6 +29,7 @@ pub fn call_side(dates: u32, given: &[u32], out: &mut [u8], at: usize) -> usize
 }
 
 // p2r VALUE LENGTH WIDTH: puts the prefix's low and high end, or the refusal.
+#[tactic(auto, unfolding(crate::specs::Words::p2r_said))]
 pub fn call_p2r(given: &[u32], out: &mut [u8], at: usize) -> usize
     ensures { PutFew 70 out.old at (p2r_said given.now) out.new result }
 {

@@ -8,7 +8,7 @@ ghost use Rattle.words.specs.Parts.{Tabled};
 ghost use Rattle.words.specs.Words.{following, build_said, lookup_said, audit_said, report_said, table_said, tabled_said};
 
 use crate::limits::TABLE_MOST;
-use crate::part::{Ends, header_of, narrow, shape_in, table_ends};
+use crate::part::{header_of, narrow, shape_in, table_ends};
 use auditing::audit::audit;
 use lists::shape::Shape;
 use lookup::lookup::lookup;
@@ -132,8 +132,7 @@ pub fn call_table(word: TableWord, dates: u32, given: &[u32], out: &mut [u8], at
     ensures { PutFew (answer_most - 1) out.old at (tabled_said word dates given.now) out.new result }
 {
     let more = numbers_after(word);
-    let ends = table_ends(given, more);
-    let Ends::At(e, t) = ends else {
+    let Some((e, t)) = table_ends(given, more) else {
         return put_bad(out, at);
     };
     let from = e + 1;

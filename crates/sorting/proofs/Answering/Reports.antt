@@ -11,6 +11,7 @@ use mathlib.Core.Path.{◌≡◌, refl, ◌∙◌}
 use native.Mathlib.Omega.{arith}
 use lib.Dec.{ltb, eqb}
 use borrow.Author.Tests.{lt-ltb, le-leb, ltb-true, ltb-false, eqb-true, eqb-false}
+use Rattle.std.specs.Prelude.{Ok}
 use Rattle.ranges.specs.Numbers.{bit, count, least}
 use Rattle.lists.specs.Rules.{Rules, rules_in, Shaped}
 use Rattle.sorting.specs.FirstFit.{part_of, Choice}
@@ -18,7 +19,6 @@ use Rattle.tables.specs.Opening.{view_of}
 use Rattle.sorting.specs.Table.{start_of, table_of}
 use Rattle.sorting.specs.Promise.{Promise}
 use Rattle.tables.specs.Report.{size_of, report_of}
-use Rattle.tables.specs.declared.report.Part.TheVariants.{Is}
 use Rattle.lists.proofs.Sound.{Sound}
 use Rattle.ranges.proofs.Counting.{count_split}
 use Rattle.sorting.proofs.Sorted.Starts.{choice_few, start_is, start_few, start_ascend}
@@ -82,5 +82,5 @@ module _ {R : Rules} {run : List ℕ} {b : ℕ} (shape : Shaped R) (sound : Soun
       omega (arith, split, start_read_off, next_read_off, start_is choice q (omega arith), start_is choice (suc q) few)
 
   pub choice_report : report_of R (table_of R run) q
-      ≡ Is (count (rules_in R) (λ i. eqb (part_of run i) q)) (least (rules_in R) (λ i. eqb (part_of run i) q))
+      ≡ Ok (record { size = count (rules_in R) (λ i. eqb (part_of run i) q); least = least (rules_in R) (λ i. eqb (part_of run i) q) })
   choice_report = report_answers choice_reported choice_size (seen-least choice q few ∙ least_part choice q few)

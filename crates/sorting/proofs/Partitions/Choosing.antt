@@ -2,28 +2,26 @@
 -- fit's, and no stamp is later than that of the rules taken. The next rule gets the lowest partition without its stamp (`Stamps.antt`).
 --     Choosing, choosing_none, choosing_more      the first i rules are taken
 --     choosing_marks                              rule i may be held against the rules before it
---     choosing_fits, choosing_count, choosing_part, choosing_long, choosing_numbers, choosing_end      every rule is taken, and written to the lent run
+--     choosing_numbers                            every rule is taken, and written to the lent run
 -- Assumes nothing.
 use Prim.Native.Nat.{ℕ, ◌+◌, ◌≤◌, ◌<◌}
 use mathlib.Core.Bool.{Bool, true, false}
-use mathlib.Core.List.{List, append-nil}
+use mathlib.Core.List.{List}
 use mathlib.Core.Path.{◌≡◌, refl, sym, ap, ◌∙◌}
 use native.Mathlib.Omega.{arith}
 use native.Mathlib.Numerals.{add-one}
 use borrow.Author.Tests.{ltb-true, ltb-false}
 use lib.Dec.{ltb}
 use lib.ListN.{length, get_or, set, take, replicate, length-set, length-replicate, get_or-replicate, get_or-eq_default}
-use lib.Seq.{take-suc-set, drop-length, length-take-le}
+use lib.Seq.{take-suc-set, length-take-le}
 use Rattle.lists.specs.Limits.{most_rules}
 use Rattle.lists.specs.Rules.{Rules, rules_in, Shaped}
-use Rattle.sorting.specs.FirstFit.{part_of, fit_of, first_fit, parts, Chosen}
-use Rattle.sorting.specs.Laying.{put}
+use Rattle.sorting.specs.FirstFit.{part_of, fit_of, first_fit}
 use Rattle.sorting.specs.Marks.{stamped, unstamped, Marking}
 use Rattle.sorting.proofs.Partitions.FirstFits.{first_fit_more, first_fit-length, first_fit_low}
 use Rattle.sorting.proofs.Partitions.Stamps.{stamped-fit, stamped_long, stamped-fresh}
 
 pub record Choosing (R : Rules) (run stamps : List ℕ) (i : ℕ) : Type 0 where
-  pub so_far : i ≤ rules_in R
   pub room : length run ≡ most_rules
   pub chosen : take i run ≡ first_fit R i
   pub long : length stamps ≡ most_rules
@@ -44,16 +42,11 @@ pub choosing_none : (R : Rules) → Choosing R (replicate most_rules 0) (replica
 unfolding first_fit
 choosing_none R =
     record {
-      so_far = omega arith;
       room = length-replicate {A = ℕ} most_rules 0;
       chosen = refl;
       long = length-replicate {A = ℕ} most_rules 0;
       fresh = unstamped_yet most_rules;
     }
-
--- what is written over the whole of a run is what it then holds
-put_whole : (lent part : List ℕ) → length part ≡ length lent → put lent 0 part ≡ part
-put_whole lent part long = let all : 0 + length part ≡ length lent = omega arith in rw (all, drop-length lent, append-nil part)
 
 module _ {R : Rules} {run stamps : List ℕ} {i : ℕ} (s : Shaped R) (h : Choosing R run stamps i) (lt : i < rules_in R) where
   inside : i < length run
@@ -74,7 +67,6 @@ module _ {R : Rules} {run stamps : List ℕ} {i : ℕ} (s : Shaped R) (h : Choos
   pub choosing_more : {v : ℕ} {after : List ℕ} → after ≡ stamped R (take i run) i stamps → v ≡ unstamped i after → Choosing R (set run i v) after (i + 1)
   choosing_more {v} {after} is-after is-v =
       record {
-        so_far = omega arith;
         room = rw length-set h.room;
         chosen = next;
         long = rw is-after (stamped_long R (take i run) i stamps h.fresh);
@@ -90,35 +82,16 @@ module _ {R : Rules} {run stamps : List ℕ} {i : ℕ} (s : Shaped R) (h : Choos
       next : take (i + 1) (set run i v) ≡ first_fit R (i + 1)
       next = rw (first_fit_more R i, add-one i, take-suc-set run i v inside, h.chosen, fits)
 
--- every rule is taken; lent is the run that was lent, and n how many numbers it has
-module _ {R : Rules} {run stamps : List ℕ} {i n : ℕ} (s : Shaped R) (h : Choosing R run stamps i) (is_n : n ≡ rules_in R) (over : n ≤ i) where
-  whole : take n run ≡ first_fit R (rules_in R)
-  whole =
-      let same : i ≡ n = omega (arith, h.so_far) in
-      ap (λ k. take k run) (sym same) ∙ h.chosen ∙ ap (first_fit R) (same ∙ is_n)
+-- every rule is taken, and n of them are left in the run that was lent, as after
+module _ {R : Rules} {run stamps : List ℕ} {i n : ℕ} (s : Shaped R) (h : Choosing R run stamps i) (all_of : i ≡ n) (is_n : n ≡ rules_in R)
+    {after : List ℕ} (is : after ≡ take n run) where
+  written : after ≡ first_fit R (rules_in R)
+  written = is ∙ ap (λ k. take k run) (sym all_of) ∙ h.chosen ∙ ap (first_fit R) (all_of ∙ is_n)
 
-  pub choosing_fits : n ≤ length run
-  choosing_fits = omega (arith, s.few_rules, h.room)
+  written_long : length after ≡ rules_in R
+  written_long = ap length written ∙ first_fit-length R (rules_in R)
 
-  pub choosing_count : n ≡ length (take n run)
-  choosing_count = sym (length-take-le n run choosing_fits)
-
-  module _ (lent : List ℕ) (one_each : length lent ≡ rules_in R) where
-    -- there is room for them in the lent run
-    pub choosing_part : 0 + length (take n run) ≤ length lent
-    choosing_part = omega (arith, choosing_count)
-
-    module _ {after : List ℕ} (is : after ≡ put lent 0 (take n run)) where
-      written : after ≡ first_fit R (rules_in R)
-      written = is ∙ put_whole lent (take n run) (omega (arith, choosing_count)) ∙ whole
-
-      pub choosing_long : length after ≡ length lent
-      choosing_long = ap length written ∙ first_fit-length R (rules_in R) ∙ sym one_each
-
-      pub choosing_numbers : (j : ℕ) → j < length after → part_of after j < most_rules
-      choosing_numbers j l =
-          let low : part_of after j ≤ j = rw written (first_fit_low R (rules_in R) j (omega (arith, choosing_long, one_each))) in
-          omega (arith, s.few_rules, choosing_long)
-
-      pub choosing_end : {b : ℕ} → b ≡ parts after (length after) → Chosen R after b
-      choosing_end {b} is_b = record { numbers = written; opened = is_b ∙ ap (parts after) (choosing_long ∙ one_each) ∙ ap (λ r. parts r (rules_in R)) written }
+  pub choosing_numbers : (j : ℕ) → j < length after → part_of after j < most_rules
+  choosing_numbers j l =
+      let low : part_of after j ≤ j = rw written (first_fit_low R (rules_in R) j (omega (arith, written_long))) in
+      omega (arith, s.few_rules, written_long)

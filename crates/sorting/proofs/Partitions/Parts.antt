@@ -1,17 +1,16 @@
 -- Laws of how many partitions a run of partition numbers opens (`specs/FirstFit.antt`).
 --     parts_none, parts_more         no rule; one rule more
 --     parts-over, parts-least        more than each number; the least that is
---     parts_turn, parts_whole        the loop that takes one number after the other
+--     parts_turn                     the loop that takes one number after the other
 --     choice_parts                   a choice of b partitions opens b
 -- Assumes nothing.
 use Prim.Native.Nat.{ℕ, zero, suc, max, ◌+◌, ◌≤◌, ◌<◌}
 use mathlib.Core.List.{List}
-use mathlib.Core.Path.{◌≡◌, refl, ap, ◌∙◌}
+use mathlib.Core.Path.{◌≡◌, refl, ap}
 use mathlib.Core.Logic.{⊎_elim}
 use native.Mathlib.Omega.{arith}
 use native.Mathlib.Nat.{eq-or-lt_of_le, le_of_suc-le-suc}
 use native.Mathlib.Numerals.{add-one}
-use lib.ListN.{length}
 use Rattle.lists.specs.Rules.{Rules, rules_in}
 use Rattle.sorting.specs.FirstFit.{part_of, parts, Choice}
 
@@ -44,9 +43,6 @@ module _ (run : List ℕ) where
 -- the loop that takes one number after the other: b is how many partitions the first i open
 pub parts_turn : (run : List ℕ) (b i : ℕ) → b ≡ parts run i → max b (part_of run i + 1) ≡ parts run (i + 1)
 parts_turn run b i is = rw (is, parts_more run i, add-one (part_of run i))
-
-pub parts_whole : (run : List ℕ) (b i : ℕ) → b ≡ parts run i → i ≤ length run → length run ≤ i → b ≡ parts run (length run)
-parts_whole run b i is le ge = let all_of : i ≡ length run = omega arith in is ∙ ap (parts run) all_of
 
 -- a choice of b partitions opens b: its numbers are below b, and the last of them is used
 all_opened : (R : Rules) (run : List ℕ) (b : ℕ) → Choice R run b → parts run (rules_in R) ≡ b

@@ -1,6 +1,6 @@
 -- First fit by stamps (`specs/Marks.antt`): holding rule i against the rules before it, one after the other, stamps the partitions
 -- that are not free for it; so the lowest partition without its stamp is the one that first fit gives it.
---     mark_old, mark_clash, mark_keep, part_few               the stamp of one partition
+--     mark_clash, mark_keep, part_few                         the stamp of one partition
 --     Stamping, stamping_none, stamping_more, stamping_end    the stamps once rule i is held against the first j rules
 --     stamped-fit, stamped_long, stamped-fresh                it is first fit's; and the stamps are ready for the next rule
 -- Assumes nothing.
@@ -24,9 +24,6 @@ use Rattle.sorting.specs.Marks.{stamp_of, mark_of, stamped, unstamped, Marking}
 
 -- ---- the stamp of one partition
 module _ (R : Rules) (i j old : ℕ) where
-  pub mark_old : old ≡ i + 1 → old ≡ mark_of R i j old
-  mark_old e = rw (eq-eqb old (i + 1) e)
-
   pub mark_clash : (old ≡ i + 1 → ⊥) → clash R j i ≡ true → i + 1 ≡ mark_of R i j old
   mark_clash ne e = rw (ne_eqb old (i + 1) ne, e)
 
@@ -55,7 +52,6 @@ free_more R run i j q = rw add-one
 
 pub record Stamping (R : Rules) (run : List ℕ) (i : ℕ) (before now : List ℕ) (j : ℕ) : Type 0 where
   pub long : length now ≡ most_rules
-  pub so_far : j ≤ i
   pub held : (q : ℕ) → q < most_rules → get_or now q 0 ≡ pick (free_yet R run i j q) (get_or before q 0) (stamp_of i)
 
 and-true : (t : Bool) → t and true ≡ t
@@ -65,7 +61,7 @@ and-true false = refl
 module _ (R : Rules) (run : List ℕ) (i : ℕ) (before : List ℕ) where
   pub stamping_none : length before ≡ most_rules → Stamping R run i before before 0
   unfolding all
-  stamping_none long = record { long = long; so_far = omega arith; held = λ q l. refl }
+  stamping_none long = record { long = long; held = λ q l. refl }
 
   module _ {now : List ℕ} {j : ℕ} (h : Stamping R run i before now j) (fresh : (q : ℕ) → get_or before q 0 ≤ i) (inside : part_of run j < most_rules) where
     -- the partition of rule j
@@ -88,7 +84,6 @@ module _ (R : Rules) (run : List ℕ) (i : ℕ) (before : List ℕ) where
     stamping_more {v} is lt =
         record {
           long = rw length-set h.long;
-          so_far = omega arith;
           held = λ q l. go q l (eqb q (part_of run j)) refl;
         }
       where
@@ -97,10 +92,9 @@ module _ (R : Rules) (run : List ℕ) (i : ℕ) (before : List ℕ) where
         go q l true e = at_part v q is (eqb-true q (part_of run j) e)
         go q l false e = at_other v q l (eqb-false q (part_of run j) e)
 
-  pub stamping_end : {now : List ℕ} {j : ℕ} → Stamping R run i before now j → i ≤ j → now ≡ stamped R run i before
+  pub stamping_end : {now : List ℕ} {j : ℕ} → Stamping R run i before now j → j ≡ i → now ≡ stamped R run i before
   unfolding stamped
-  stamping_end {now} {j} h over =
-      let is : j ≡ i = omega (arith, h.so_far) in
+  stamping_end {now} {j} h is =
       let after : ℕ → ℕ = λ q. pick (free R run i q) (get_or before q 0) (stamp_of i) in
       let same : (q : ℕ) → q < length now → get_or now q 0 ≡ get_or (tab most_rules after) q 0
       = λ q l. let inside : q < most_rules = omega (arith, h.long) in

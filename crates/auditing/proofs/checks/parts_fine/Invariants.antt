@@ -1,17 +1,12 @@
--- `auditing::checks::parts_fine` meets its contract. At the loop's head each partition below q is right; the measure is what is left of b.
+-- `auditing::checks::parts_fine` meets its contract. At the loop's head each partition below q is right.
 -- Assumes nothing.
-use Prim.Native.Nat.{◌-◌}
 use mathlib.Core.Bool.{true}
-use mathlib.Core.Path.{◌≡◌}
 use lib.ListN.{get_or}
-use Rattle.lists.specs.Rules.{listed}
+use Rattle.lists.specs.Rules.{lent}
 use Rattle.lists.proofs.Search.{Answered}
 use Rattle.tables.specs.Layout.{view, b_at}
 use Rattle.auditing.specs.Checks.{part_fine}
 use Rattle.auditing.proofs.checks.parts_fine.Given as goal
 
 abbrev pub invariant-loop-q : goal.invariant-loop-q
-invariant-loop-q l = (l.b ≡ get_or l.table b_at 0) × Answered (part_fine (listed l.shape l.list) (view l.n l.d l.table)) true (get_or l.table b_at 0) l.q
-
-abbrev pub decreases-loop-q : goal.decreases-loop-q
-decreases-loop-q l = l.b - l.q
+invariant-loop-q l = Answered (part_fine (lent l.list) (view l.n l.d l.table)) true (get_or l.table b_at 0) l.q

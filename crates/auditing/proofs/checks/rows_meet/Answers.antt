@@ -1,24 +1,13 @@
 -- The answers that the check does not find alone.
-use native.Mathlib.Omega.{arith}
-use Rattle.lists.proofs.Search.{answered-none, answered-all, turn_not, turn_more}
+use Rattle.lists.proofs.Search.{answered-all, turn_not}
 use mathlib.Core.Bool.{not}
 use mathlib.Core.Path.{ap}
 use Rattle.auditing.proofs.checks.rows_meet.Goals as goal
-
-pub loop-f-init : goal.loop-f-init
-loop-f-init c = answered-none _ _ _
 
 -- a no
 pub returns-then-not-field_meets : goal.returns-then-not-field_meets
 returns-then-not-field_meets c =
     turn_not c.loop-f.invariant c.loop-f-test.true c.field_meets.ensures (ap not c.if-not-field_meets.true)
-
-pub loop-f-smaller : goal.loop-f-smaller
-loop-f-smaller c = omega arith
-
-pub loop-f-preserved : goal.loop-f-preserved
-loop-f-preserved c =
-    turn_more c.loop-f.invariant c.loop-f-test.true c.field_meets.ensures (ap not c.if-not-field_meets.false)
 
 -- all of them
 pub returns : goal.returns

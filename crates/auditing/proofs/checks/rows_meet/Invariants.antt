@@ -1,6 +1,5 @@
--- `auditing::checks::rows_meet` meets its contract. At the loop's head each field below f of the two places is right; the measure is what is left of d.
+-- `auditing::checks::rows_meet` meets its contract. At the loop's head each field below f of the two places is right.
 -- Assumes nothing.
-use Prim.Native.Nat.{◌-◌}
 use mathlib.Core.Bool.{true}
 use Rattle.lists.proofs.Search.{Answered}
 use Rattle.tables.specs.Layout.{view}
@@ -9,6 +8,3 @@ use Rattle.auditing.proofs.checks.rows_meet.Given as goal
 
 abbrev pub invariant-loop-f : goal.invariant-loop-f
 invariant-loop-f l = Answered (meets (view l.n l.d l.table) l.a l.p) true l.d l.f
-
-abbrev pub decreases-loop-f : goal.decreases-loop-f
-decreases-loop-f l = l.d - l.f

@@ -1,12 +1,8 @@
--- `auditing::checks::rules_fine` meets its contract. At the loop's head the rules of the first p places are marked (`Marked`); the measure is what is left of n.
+-- `auditing::checks::rules_fine` meets its contract. At the loop's head the rules of the first p places are marked (`Marked`).
 -- Assumes nothing.
-use Prim.Native.Nat.{◌-◌}
 use Rattle.tables.specs.Layout.{order_in}
 use Rattle.auditing.proofs.Checking.{Marked}
 use Rattle.auditing.proofs.checks.rules_fine.Given as goal
 
 abbrev pub invariant-loop-p : goal.invariant-loop-p
 invariant-loop-p l = Marked l.n (order_in l.table) l.marks l.p
-
-abbrev pub decreases-loop-p : goal.decreases-loop-p
-decreases-loop-p l = l.n - l.p

@@ -4,15 +4,15 @@ use Rattle.lists.proofs.Rules.{has_field}
 use Rattle.lists.proofs.Search.{answered_one, answered_none_of}
 use Rattle.lists.proofs.edge.edge_at.Goals as goal
 
-pub end_at-requires : goal.end_at-requires
-end_at-requires c = has_field c.requires c.loop-f-test.true
+-- none is
+pub returns : goal.returns
+unfolding edge_of
+returns c = answered_none_of c.loop-f.invariant c.loop-f-test.false
 
 -- a field at an end
 pub returns-then-end_at : goal.returns-then-end_at
 unfolding edge_of
 returns-then-end_at c = answered_one c.loop-f.invariant c.loop-f-test.true c.end_at.ensures c.if-end_at.true
 
--- none is
-pub returns : goal.returns
-unfolding edge_of
-returns c = answered_none_of c.loop-f.invariant c.loop-f-test.false
+pub end_at-requires : goal.end_at-requires
+end_at-requires c = has_field c.requires c.loop-f-test.true

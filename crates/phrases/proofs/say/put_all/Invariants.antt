@@ -1,13 +1,7 @@
--- `words::say::put_all` meets its contract. At the loop's head the first i numbers are put (`Said.antt`); the measure is what is
--- left of them.
+-- `phrases::say::put_all` meets its contract. At the loop's head the first numbers are put (`Said.antt`).
 -- Assumes nothing.
-use Prim.Native.Nat.{◌-◌}
-use lib.ListN.{length}
 use Rattle.phrases.proofs.Said.{PutFirst}
 use Rattle.phrases.proofs.say.put_all.Given as goal
 
-abbrev pub invariant-loop-i : goal.invariant-loop-i
-invariant-loop-i l = PutFirst l.numbers l.i l.initial.out l.at l.out l.place
-
-abbrev pub decreases-loop-i : goal.decreases-loop-i
-decreases-loop-i l = length l.numbers - l.i
+abbrev pub invariant-loop-n : goal.invariant-loop-n
+invariant-loop-n l = PutFirst l.numbers l.n-index l.initial.out l.at l.out l.place

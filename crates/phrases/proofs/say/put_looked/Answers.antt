@@ -1,5 +1,4 @@
--- `words::say::put_looked` meets its contract, case by case.
--- Assumes nothing.
+-- The answers that the check does not find alone.
 use native.Mathlib.Omega.{arith}
 use Rattle.phrases.proofs.Few.{few_then, few_more}
 use Rattle.phrases.proofs.say.put_looked.Goals as goal
@@ -13,7 +12,3 @@ returns-in-Rule c =
 pub returns-in-Nothing : goal.returns-in-Nothing
 returns-in-Nothing c =
     rw c.in-Nothing.is (few_more (omega arith) (few_then c.put_one-next.ensures c.put_edge-in-Nothing.ensures))
-
--- a refusal
-pub returns-in-Refused : goal.returns-in-Refused
-returns-in-Refused c = rw c.in-Refused.is c.put_refused.ensures

@@ -1,4 +1,4 @@
--- `words::say::put_one` meets its contract: the text, and a number after it.
+-- `phrases::say::put_one` meets its contract: the text, and a number after it.
 -- Assumes nothing.
 use native.Mathlib.Omega.{arith}
 use Rattle.phrases.proofs.Few.{few_text, few_then}

@@ -1,4 +1,4 @@
--- `words::say::put_refused` meets its contract: the word, and three numbers after it.
+-- `phrases::say::put_refused` meets its contract: the word, and three numbers after it.
 -- Assumes nothing.
 use native.Mathlib.Omega.{arith}
 use Rattle.phrases.proofs.Few.{few_then, few_more}

@@ -1,4 +1,4 @@
--- `words::say::put_spaced` meets its contract: a blank, and then the number.
+-- `phrases::say::put_spaced` meets its contract: a blank, and then the number.
 -- Assumes nothing.
 use Prim.Native.Nat.{◌<◌, ◌^◌}
 use native.Mathlib.Omega.{arith}

@@ -1,4 +1,4 @@
--- `words::say::put_two` meets its contract: the text and a number, and a number after them.
+-- `phrases::say::put_two` meets its contract: the text and a number, and a number after them.
 -- Assumes nothing.
 use native.Mathlib.Omega.{arith}
 use Rattle.phrases.proofs.Few.{few_then, few_more}

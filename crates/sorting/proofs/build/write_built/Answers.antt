@@ -4,8 +4,7 @@
 use mathlib.Core.Path.{sym, ◌∙◌}
 use Rattle.lists.specs.Limits.{most_rules}
 use Rattle.sorting.proofs.Writing.Room.{room_long}
-use Rattle.sorting.proofs.Writing.Ranks.{front_fits, front_long, front_sorted}
-use Rattle.sorting.proofs.Answering.Building.{room_few, room_run, chosen_fits, chosen_count, chosen_laying, chosen_opened, chosen_written}
+use Rattle.sorting.proofs.Answering.Building.{room_few, room_run, chosen_fits, chosen_count, chosen_laying}
 use Rattle.sorting.proofs.build.write_built.Goals as goal
 
 pub slice_bounds-run-end : goal.slice_bounds-run-end
@@ -39,27 +38,3 @@ sort_out-requires c =
       (chosen_laying pre c.rules_in-n.ensures c.first_fit-b.ensures _).dealt,
       sym (room_long most_rules _ (room_few pre c.rules_in-n.ensures)) ∙ chosen_count pre c.rules_in-n.ensures c.first_fit-b.ensures _,
     )
-
-pub slice_bounds-run-end-3 : goal.slice_bounds-run-end-3
-slice_bounds-run-end-3 c =
-    chosen_fits c.requires c.rules_in-n.ensures c.first_fit-b.ensures _
-
-pub slice_bounds-write_table-end : goal.slice_bounds-write_table-end
-slice_bounds-write_table-end c =
-    chosen_count c.requires c.rules_in-n.ensures c.first_fit-b.ensures _
-
-pub slice_bounds-order-end-2 : goal.slice_bounds-order-end-2
-slice_bounds-order-end-2 c =
-    front_fits c.sort_out.ensures c.rules_in-n.ensures _
-
-pub slice_bounds-write_table-end-2 : goal.slice_bounds-write_table-end-2
-slice_bounds-write_table-end-2 c =
-    front_long c.sort_out.ensures c.rules_in-n.ensures _
-
-pub write_table-requires : goal.write_table-requires
-write_table-requires c =
-    let pre = c.requires in record { laying = chosen_laying pre c.rules_in-n.ensures c.first_fit-b.ensures _; sorted_out = (front_sorted c.sort_out.ensures c.rules_in-n.ensures _, chosen_opened pre c.rules_in-n.ensures c.first_fit-b.ensures _) }
-
-pub returns : goal.returns
-returns c =
-    (c.first_fit-b.ensures.opened, chosen_written c.requires c.rules_in-n.ensures c.first_fit-b.ensures _ c.write_table.ensures)

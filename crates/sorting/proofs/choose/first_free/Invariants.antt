@@ -1,6 +1,6 @@
--- `sorting::choose::first_free` meets its contract. At the loop's head the partitions below q have rule i's stamp (`Answered` of lists' `Search.antt`); the measure is what is left of 0 to i.
+-- `sorting::choose::first_free` meets its contract. At the loop's head the partitions below q have rule i's stamp (`Answered` of lists' `Search.antt`).
 -- Assumes nothing.
-use Prim.Native.Nat.{suc, ◌+◌, ◌-◌}
+use Prim.Native.Nat.{suc}
 use mathlib.Core.Bool.{false, not}
 use lib.Dec.{eqb}
 use lib.ListN.{get_or}
@@ -10,6 +10,3 @@ use Rattle.sorting.proofs.choose.first_free.Given as goal
 
 abbrev pub invariant-loop-q : goal.invariant-loop-q
 invariant-loop-q l = Answered (λ k. not (eqb (get_or l.stamps k 0) (stamp_of l.i))) false (suc l.i) l.q
-
-abbrev pub decreases-loop-q : goal.decreases-loop-q
-decreases-loop-q l = l.i + 1 - l.q

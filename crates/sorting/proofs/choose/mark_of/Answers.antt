@@ -2,12 +2,8 @@
 -- Assumes nothing.
 use mathlib.Core.Path.{sym, ◌∙◌}
 use Rattle.sorting.proofs.Partitions.Compared.{clash_told}
-use Rattle.sorting.proofs.Partitions.Stamps.{mark_old, mark_clash, mark_keep}
+use Rattle.sorting.proofs.Partitions.Stamps.{mark_clash, mark_keep}
 use Rattle.sorting.proofs.choose.mark_of.Goals as goal
-
--- taken already
-pub returns-then-old-i : goal.returns-then-old-i
-returns-then-old-i c = mark_old _ _ _ _ c.if-old-i.true
 
 -- a clash
 pub returns-then-rules_clash : goal.returns-then-rules_clash

@@ -1,16 +1,11 @@
 -- `sorting::run_fault::is_apart` meets its contract: rules of different partitions are not compared.
 -- Assumes nothing.
-use Rattle.lists.specs.Rules.{listed}
+use Rattle.lists.specs.Rules.{lent}
 use Rattle.sorting.proofs.Partitions.Compared.{clash_told}
-use Rattle.sorting.proofs.Answering.RunTests.{apart_other, apart_same}
+use Rattle.sorting.proofs.Answering.RunTests.{apart_same}
 use Rattle.sorting.proofs.run_fault.is_apart.Goals as goal
-
-pub returns-then-run-j : goal.returns-then-run-j
-returns-then-run-j c =
-    let a = c.args in
-    apart_other (listed a.shape a.list.now) a.run.now a.i a.j c.if-run-j.true
 
 pub returns : goal.returns
 returns c =
     let a = c.args in
-    apart_same (listed a.shape a.list.now) a.run.now a.i a.j c.if-run-j.false (clash_told c.requires.1 c.rules_clash.ensures)
+    apart_same (lent a.list.now) a.run.now a.i a.j c.if-run-j.false (clash_told c.requires.1 c.rules_clash.ensures)

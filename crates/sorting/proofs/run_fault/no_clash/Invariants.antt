@@ -1,15 +1,11 @@
--- `sorting::run_fault::no_clash` meets its contract. At the loop's head no rule below i clashes in its partition; the measure is what is left of the run.
+-- `sorting::run_fault::no_clash` meets its contract. At the loop's head no rule below i clashes in its partition.
 -- Assumes nothing.
-use Prim.Native.Nat.{◌-◌}
 use mathlib.Core.Bool.{true}
 use lib.ListN.{length}
-use Rattle.lists.specs.Rules.{listed}
+use Rattle.lists.specs.Rules.{lent}
 use Rattle.lists.proofs.Search.{Answered}
 use Rattle.sorting.specs.FirstFit.{part_of, free}
 use Rattle.sorting.proofs.run_fault.no_clash.Given as goal
 
 abbrev pub invariant-loop-i : goal.invariant-loop-i
-invariant-loop-i l = Answered (λ k. free (listed l.shape l.list) l.run k (part_of l.run k)) true (length l.run) l.i
-
-abbrev pub decreases-loop-i : goal.decreases-loop-i
-decreases-loop-i l = length l.run - l.i
+invariant-loop-i l = Answered (λ k. free (lent l.list) l.run k (part_of l.run k)) true (length l.run) l.i

@@ -1,22 +1,14 @@
--- The answers that the check does not find alone.
-use native.Mathlib.Omega.{arith}
-use Rattle.lists.proofs.Search.{answered-none}
-use Rattle.sorting.proofs.Answering.RunTests.{fit-not, fit_more, fit_all}
+-- `sorting::run_fault::numbers_fit` meets its contract: each number is below n.
+-- Assumes nothing.
+use Prim.Native.Nat.{ℕ, ◌<◌}
+use mathlib.Core.Logic.{◌↔◌}
+use borrow.Author.Rules.{rules}
+use lib.ListN.{length, get_or}
+use Rattle.std.specs.Prelude.{IsTrue}
+use Rattle.sorting.proofs.Answering.RunTests.{fit_all}
 use Rattle.sorting.proofs.run_fault.numbers_fit.Goals as goal
 
-pub loop-i-init : goal.loop-i-init
-loop-i-init c = answered-none _ _ _
-
-pub returns-then-n-run : goal.returns-then-n-run
-returns-then-n-run c =
-    fit-not c.args.run.now c.loop-i.invariant c.loop-i-test.true c.if-n-run.true
-
-pub loop-i-smaller : goal.loop-i-smaller
-loop-i-smaller c = omega arith
-
-pub loop-i-preserved : goal.loop-i-preserved
-loop-i-preserved c =
-    fit_more c.args.run.now c.loop-i.invariant c.loop-i-test.true c.if-n-run.false
-
 pub returns : goal.returns
-returns c = fit_all c.args.run.now c.loop-i.invariant c.loop-i-test.false
+returns c =
+    let told : IsTrue c.all.result ↔ ((k : ℕ) → k < length c.args.run.now → get_or c.args.run.now k 0 < length c.args.run.now) = search rules in
+    fit_all c.args.run.now told

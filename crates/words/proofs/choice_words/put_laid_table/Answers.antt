@@ -3,7 +3,7 @@
 use mathlib.Core.Path.{sym}
 use native.Mathlib.Omega.{arith}
 use Rattle.words.proofs.Longest.{table_most_lem}
-use Rattle.words.proofs.Narrowing.{room_enough, room_within, room_count, room_front}
+use Rattle.words.proofs.Narrowing.{room_enough}
 use Rattle.words.proofs.choice_words.put_laid_table.Goals as goal
 
 pub slice_bounds-table-end : goal.slice_bounds-table-end
@@ -17,12 +17,3 @@ slice_bounds-narrow-end c =
 pub narrow-requires : goal.narrow-requires
 narrow-requires c =
     record { table_len = sym (room_enough c.args.numbers.now table_most_lem c.requires.few); narrow_numbers = c.requires.narrow }
-
-pub slice_bounds-table-end-2 : goal.slice_bounds-table-end-2
-slice_bounds-table-end-2 c = room_within c.narrow.ensures _
-
-pub slice_bounds-put_laid-end : goal.slice_bounds-put_laid-end
-slice_bounds-put_laid-end c = room_count c.narrow.ensures _
-
-pub returns : goal.returns
-returns c = rw (room_front c.narrow.ensures _) at c.put_laid.ensures
