@@ -9,6 +9,7 @@ use Rattle.lists.specs.Rules.{Rules, fields_of, rules_in, Shaped}
 use Rattle.ordering.specs.Order.{before_by}
 use Rattle.tables.specs.Layout.{View, TableFor, view, start_in}
 use Rattle.tables.specs.Opening.{view_of, open_fault}
+use Rattle.tables.specs.declared.read.Table.{Table}
 
 -- of b partitions, the start after q: past start q where q is one of them, else 0
 unfoldable pub start_fine : ℕ → (ℕ → ℕ) → ℕ → Bool
@@ -99,3 +100,19 @@ pub record Parted (R : Rules) (n d : ℕ) (T : List ℕ) : Type 0 where
   pub few : (view n d T).b ≤ n
   pub ascend : (q : ℕ) → q < (view n d T).b → start_in n T q < start_in n T (suc q)
   pub within : (q : ℕ) → q < (view n d T).b → start_in n T (suc q) ≤ n
+
+-- ---- the same of a table as it is lent, which has room for its n rules
+abbrev pub HeldIn : Rules → Table → Type 0
+HeldIn R t = Held R t.room t.d t.numbers.now
+
+abbrev pub CellIn : Table → ℕ → ℕ → Type 0
+CellIn t p f = Cell t.room t.d t.numbers.now p f
+
+abbrev pub PairIn : Table → ℕ → Type 0
+PairIn t p = Pair t.room t.d t.numbers.now p
+
+abbrev pub SpanIn : Rules → Table → ℕ → ℕ → Type 0
+SpanIn R t s e = Span R t.room t.d t.numbers.now s e
+
+abbrev pub PartedIn : Rules → Table → Type 0
+PartedIn R t = Parted R t.room t.d t.numbers.now

@@ -1,26 +1,30 @@
 -- What the answer of a lookup says in the paper's words (`specs/Lookup.antt`) tells it apart from every other.
 --     looked_said_one     two answers that say the same are one
 -- Assumes nothing.
-use mathlib.Core.List.{[], ◌∷◌}
-use mathlib.Core.Path.{◌≡◌, ap}
-use Rattle.ranges.specs.Refusals.{none}
-use Rattle.ranges.specs.Numbers.{bit}
+use Prim.Native.Nat.{ℕ}
+use mathlib.Core.Path.{◌≡◌, refl, ap}
+use Rattle.std.specs.Prelude.{Option, Some, None, Result}
+use Rattle.ranges.specs.declared.refusal.Refusal.{Refusal}
 use Rattle.ranges.proofs.Numbers.{never, bit_one}
-use Rattle.ranges.proofs.Answers.{said_refusal, said_answer}
-use Rattle.lookup.specs.Lookup.{says_looked}
+use Rattle.ranges.proofs.Answers.{said_one}
+use Rattle.lookup.specs.Lookup.{looked_words, says_looked}
 use Rattle.lookup.specs.declared.lookup.Looked.{Looked}
-use Rattle.lookup.specs.declared.lookup.Looked.TheVariants.{Rule, Nothing, Refused}
+use Rattle.lookup.specs.declared.lookup.Match.{Match}
 
-pub looked_said_one : (a b : Looked) → says_looked a ≡ says_looked b → a ≡ b
-looked_said_one (Rule i t a) (Rule j u b) same =
-    let e = said_answer none none (1 ∷ i ∷ t ∷ bit a ∷ []) (1 ∷ j ∷ u ∷ bit b ∷ []) same in
-    let edge : a ≡ b = bit_one a b (cc) in
-    cc
-looked_said_one (Rule i t a) (Nothing u) same = let e = said_answer none none (1 ∷ i ∷ t ∷ bit a ∷ []) (0 ∷ u ∷ 0 ∷ []) same in never (cc)
-looked_said_one (Rule i t a) (Refused y) same = let e = said_answer none y (1 ∷ i ∷ t ∷ bit a ∷ []) [] same in never (cc)
-looked_said_one (Nothing t) (Rule j u b) same = let e = said_answer none none (0 ∷ t ∷ 0 ∷ []) (1 ∷ j ∷ u ∷ bit b ∷ []) same in never (cc)
-looked_said_one (Nothing t) (Nothing u) same = let e = said_answer none none (0 ∷ t ∷ 0 ∷ []) (0 ∷ u ∷ 0 ∷ []) same in cc
-looked_said_one (Nothing t) (Refused y) same = let e = said_answer none y (0 ∷ t ∷ 0 ∷ []) [] same in never (cc)
-looked_said_one (Refused x) (Rule j u b) same = let e = said_answer x none [] (1 ∷ j ∷ u ∷ bit b ∷ []) same in never (cc)
-looked_said_one (Refused x) (Nothing u) same = let e = said_answer x none [] (0 ∷ u ∷ 0 ∷ []) same in never (cc)
-looked_said_one (Refused x) (Refused y) same = ap Refused (said_refusal x y [] [] same)
+words_one : (x y : Option Match) (t u : ℕ) → looked_words x t ≡ looked_words y u → (x ≡ y) × (t ≡ u)
+words_one (Some m) (Some k) t u same =
+    let rule : m.rule ≡ k.rule = cc in
+    let edge : m.edge ≡ k.edge = bit_one m.edge k.edge (cc) in
+    let is : m ≡ k = rw (rule, edge) in
+    (ap Some is, cc)
+words_one (Some m) None t u same = never (cc)
+words_one None (Some k) t u same = never (cc)
+words_one None None t u same = (refl, cc)
+
+pub looked_said_one : (a b : Result Looked Refusal) → says_looked a ≡ says_looked b → a ≡ b
+looked_said_one a b same = said_one (λ (x : Looked). looked_words x.found x.tests) go a b same
+  where
+    go : (x y : Looked) → looked_words x.found x.tests ≡ looked_words y.found y.tests → x ≡ y
+    go x y e =
+        let both = words_one x.found y.found x.tests y.tests e in
+        rw (both.0, both.1)

@@ -27,8 +27,7 @@ use Rattle.sorting.specs.Table.{place_of, rule_at, start_of, least_of, run_from,
 use Rattle.tables.specs.Opening.{opening, open_fault}
 use Rattle.sorting.proofs.Cases.{bench, bench_table, empty, empty_table}
 use Rattle.lookup.specs.Walk.{run_stands, step_at, arrived_of, walk_from}
-use Rattle.lookup.specs.Lookup.{turn_of, visit_of, lookup_from, lookup_of, says_looked}
-use Rattle.lookup.specs.declared.lookup.Looked.TheVariants.{Nothing}
+use Rattle.lookup.specs.Lookup.{turn_of, visit_of, lookup_from, lookup_of, says_looked, unmatched}
 
 -- ---- a row of the table
 pub record Case : Type 0 where
@@ -77,6 +76,6 @@ cases =
     ∷ []
 
 -- the one statement: every row of the table holds, and in the table of no rules any header at all finds none, with 0 tests (B9)
-pub cases_hold : T (hold cases) × ((h : List ℕ) → lookup_of empty empty_table h ≡ Nothing 0)
+pub cases_hold : T (hold cases) × ((h : List ℕ) → lookup_of empty empty_table h ≡ unmatched 0)
 unfolding cases all any count least greatest tab end_of past_of flag_of dates_in is_date spot_of side_of rules_in offset_of low_of high_of ends_at fits edge_of shape_fault standing_of compare fit_of first_fit parts table_length order_at start_at least_at from_at to_at row_of place_of rule_at start_of least_of run_from run_to table_of opening open_fault run_stands step_at arrived_of walk_from turn_of visit_of lookup_from lookup_of prefixes_of prefixes_from block_of block_fits prefix_fault
 cases_hold = (tt, λ h. refl)

@@ -6,5 +6,5 @@ use Rattle.ranges.proofs.OneAnswer.{OneAnswer}
 use Rattle.lookup.proofs.lookup.lookup.Kinds as lookup_kinds
 use Rattle.lookup.proofs.lookup.lookup.Reads as lookup_reads
 
-pub lookup_one : OneAnswer 2 lookup_kinds.ps lookup_kinds.r lookup_reads.Learnt
+pub lookup_one : OneAnswer 3 lookup_kinds.ps lookup_kinds.r lookup_reads.Learnt
 lookup_one κs a x y e g p q = p ∙ sym q

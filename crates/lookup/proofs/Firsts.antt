@@ -14,19 +14,19 @@ use mathlib.Core.List.{List}
 use mathlib.Core.Path.{◌≡◌, refl, sym, ap, ◌∙◌, subst}
 use native.Mathlib.Omega.{arith}
 use lib.Dec.{ltb}
-use borrow.Author.Tests.{ltb-true, ltb-false, eq-eqb}
-use Rattle.std.specs.Prelude.{Option, Some, None}
+use borrow.Author.Tests.{ltb-true, ltb-false}
+use Rattle.std.specs.Prelude.{Option, Some, None, Result}
+use Rattle.ranges.specs.declared.refusal.Refusal.{Refusal}
 use Rattle.ranges.specs.Numbers.{least}
 use Rattle.ranges.specs.Refusals.{none}
 use Rattle.ranges.proofs.Numbers.{never, and_right, least_is, least-none}
 use Rattle.lists.specs.Rules.{Rules, fields_of, rules_in}
 use Rattle.lists.specs.FirstMatch.{fits, first_match}
 use Rattle.lists.proofs.Rules.{Shaped}
-use Rattle.lists.proofs.Faults.{shape_stands}
 use Rattle.tables.specs.Layout.{View, TableFor}
 use Rattle.tables.specs.Opening.{view_of, open_fault}
 use Rattle.sorting.specs.Promise.{InPart, Promise}
-use Rattle.tables.proofs.Opened.{opening_last, open_stands}
+use Rattle.tables.proofs.Opened.{opened_none}
 use Rattle.lookup.specs.Walk.{Walked, ran}
 use Rattle.lookup.specs.Lookup.{skips, turn_of, visit_of, better, answer_of, lookup_from, search_of, search_all, lookup_of, tests_in}
 use Rattle.lookup.specs.Bounds.{tests_of, candidate, turn_made, refuses}
@@ -191,7 +191,7 @@ module _ {R : Rules} {v : View} (h : List ℕ) (promise : Promise R v) where
   all_first = by_turns (λ best. visit_of R v h) visit_takes
 
   -- ---- skipping makes no more tests
-  stands : {w : Looked} → (u : ℕ) × (w ≡ answer_of R h (first_match R h) u) → refuses w ≡ false
+  stands : {w : Result Looked Refusal} → (u : ℕ) × (w ≡ answer_of R h (first_match R h) u) → refuses w ≡ false
   stands (u, is) = ap refuses is ∙ answer_stands R h (first_match R h) u
 
   pub never_more : tests_in (search_of R v h) ≤ tests_in (search_all R v h)
@@ -210,12 +210,18 @@ module _ (R : Rules) (T : List ℕ) (shape : Shaped R) (sized : TableFor (rules_
   -- such a table opens
   pub promise_opens : open_fault R T ≡ none
   promise_opens =
-      let v = view_of R T in
-      open_stands R T (ap (λ x. x.number) (shape_stands R shape.some_fields shape.few_fields (sym shape.whole) shape.few_rules)) sized.long
-      (opening_last (rules_in R) (fields_of R) v promise.rules promise.fields (parts_few promise) promise.first_start
-      ∙ eq-eqb (v.start v.b) (rules_in R) promise.last_start)
+      opened_none
+      record {
+        shape_stands = shape;
+        sized = sized;
+        rules = promise.rules;
+        fields = promise.fields;
+        few_parts = parts_few promise;
+        first_start = promise.first_start;
+        last_start = promise.last_start;
+      }
 
   pub lookup_first : (h : List ℕ) → (u : ℕ) × (lookup_of R T h ≡ answer_of R h (first_match R h) u)
   lookup_first h =
       let found = search_first h promise in
-      (found.0, lookup_searches R T h (ap (λ x. x.number) promise_opens) ∙ found.1)
+      (found.0, lookup_searches R T h promise_opens ∙ found.1)

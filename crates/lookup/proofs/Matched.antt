@@ -7,26 +7,28 @@ use Prim.Native.Nat.{ℕ, ◌<◌}
 use mathlib.Core.Bool.{false}
 use mathlib.Core.List.{List}
 use mathlib.Core.Logic.{◌↔◌}
-use mathlib.Core.Path.{◌≡◌, sym, ◌∙◌}
+use mathlib.Core.Path.{◌≡◌, sym, ap, ◌∙◌}
 use native.Mathlib.Omega.{arith}
 use lib.Dec.{ltb}
 use borrow.Author.Tests.{lt-ltb, le-ltb, ltb-true, ltb-false}
+use Rattle.std.specs.Prelude.{Result}
+use Rattle.ranges.specs.declared.refusal.Refusal.{Refusal}
 use Rattle.ranges.specs.Numbers.{least}
 use Rattle.ranges.proofs.Numbers.{never, picked, not_picked, least_is, least-none, least_hit, least_under}
 use Rattle.lists.specs.Rules.{Rules, rules_in}
 use Rattle.lists.specs.FirstMatch.{fits, first_match}
 use Rattle.lists.specs.Edges.{edge_of}
 use Rattle.lists.proofs.Theorems.{First}
-use Rattle.lookup.specs.Lookup.{answer_of}
+use Rattle.lookup.specs.Lookup.{answer_of, match_in, matched, unmatched}
+use Rattle.lookup.proofs.Returned.{matched_one}
 use Rattle.lookup.specs.declared.lookup.Looked.{Looked}
-use Rattle.lookup.specs.declared.lookup.Looked.TheVariants.{Rule, Nothing}
 
 -- no rule of the list fits
 abbrev pub NoneFits : Rules → List ℕ → Type 0
 NoneFits R h = (i : ℕ) → i < rules_in R → fits R h i ≡ false
 
-module _ (R : Rules) (h : List ℕ) (w : Looked) (u : ℕ) (is-w : w ≡ answer_of R h (first_match R h) u) where
-  pub matched_rule_iff : (i : ℕ) → ((t : ℕ) × (w ≡ Rule i t (edge_of R h i))) ↔ First R h i
+module _ (R : Rules) (h : List ℕ) (w : Result Looked Refusal) (u : ℕ) (is-w : w ≡ answer_of R h (first_match R h) u) where
+  pub matched_rule_iff : (i : ℕ) → ((t : ℕ) × (w ≡ matched i t (edge_of R h i))) ↔ First R h i
   unfolding first_match
   matched_rule_iff i = (λ found. to found.0 found.1, λ first. (u, fro first))
     where
@@ -36,18 +38,18 @@ module _ (R : Rules) (h : List ℕ) (w : Looked) (u : ℕ) (is-w : w ≡ answer_
       i₀ : ℕ
       i₀ = least n (fits R h)
 
-      to : (t : ℕ) → w ≡ Rule i t (edge_of R h i) → First R h i
+      to : (t : ℕ) → w ≡ matched i t (edge_of R h i) → First R h i
       to t is =
-          let told = picked (Rule i₀ u (edge_of R h i₀)) (Nothing u) (Rule i t (edge_of R h i)) (ltb i₀ n) (sym is-w ∙ is) (λ r. never (cc)) in
-          let is_i : i₀ ≡ i = cc told.1 in
+          let told = picked (matched i₀ u (edge_of R h i₀)) (unmatched u) (matched i t (edge_of R h i)) (ltb i₀ n) (sym is-w ∙ is) (λ r. never (cc (ap match_in r))) in
+          let is_i : i₀ ≡ i = (matched_one told.1).0 in
           let lt = ltb-true i₀ n told.0 in
           let first : First R h i₀ = record { rule = lt; here = least_hit (fits R h) n lt; before = least_under (fits R h) n } in
           rw is_i at first
 
-      fro : First R h i → w ≡ Rule i u (edge_of R h i)
+      fro : First R h i → w ≡ matched i u (edge_of R h i)
       fro first = is-w ∙ rw (least_is (fits R h) n i first.rule first.here first.before, lt-ltb i n first.rule)
 
-  pub matched_none_iff : ((t : ℕ) × (w ≡ Nothing t)) ↔ NoneFits R h
+  pub matched_none_iff : ((t : ℕ) × (w ≡ unmatched t)) ↔ NoneFits R h
   unfolding first_match
   matched_none_iff = (λ found. to found.0 found.1, λ none. (u, fro none))
     where
@@ -57,11 +59,11 @@ module _ (R : Rules) (h : List ℕ) (w : Looked) (u : ℕ) (is-w : w ≡ answer_
       i₀ : ℕ
       i₀ = least n (fits R h)
 
-      to : (t : ℕ) → w ≡ Nothing t → NoneFits R h
+      to : (t : ℕ) → w ≡ unmatched t → NoneFits R h
       to t is i lt =
-          let told = not_picked (Rule i₀ u (edge_of R h i₀)) (Nothing u) (Nothing t) (ltb i₀ n) (sym is-w ∙ is) (λ r. never (cc)) in
+          let told = not_picked (matched i₀ u (edge_of R h i₀)) (unmatched u) (unmatched t) (ltb i₀ n) (sym is-w ∙ is) (λ r. never (cc (ap match_in r))) in
           let over = ltb-false i₀ n told.0 in
           least_under (fits R h) n i (omega arith)
 
-      fro : NoneFits R h → w ≡ Nothing u
+      fro : NoneFits R h → w ≡ unmatched u
       fro none = is-w ∙ rw (least-none (fits R h) n none, le-ltb n n (omega arith))

@@ -48,10 +48,9 @@ use Rattle.sorting.proofs.Partitions.FirstFits.{free_yes, fit_is, first_fit_at}
 use Rattle.sorting.proofs.Sorted.Reading.{read-parts, table_sized}
 use Rattle.sorting.proofs.Sorted.Built.{built_keeps_promise}
 use Rattle.lookup.specs.Walk.{ran, mid_of, leaves, step_at, walk_from}
-use Rattle.lookup.specs.Lookup.{turn_of, visit_of, answer_of, lookup_from, search_of, lookup_of}
+use Rattle.lookup.specs.Lookup.{turn_of, visit_of, answer_of, lookup_from, search_of, lookup_of, matched}
 use Rattle.lookup.specs.Bounds.{PowerWithin, ladder}
 use Rattle.lists.specs.Headers.{zeros}
-use Rattle.lookup.specs.declared.lookup.Looked.TheVariants.{Rule}
 use Rattle.lookup.proofs.Arrivals.{arrived_yes}
 use Rattle.lookup.proofs.Steps.{trusted_stands, step_by}
 use Rattle.lookup.proofs.Walks.{walk_arrives, walk_on}
@@ -330,7 +329,7 @@ module _ (d dates m : ℕ) (some : 1 ≤ d) (few : d ≤ 8) (rules : 1 ≤ m) (v
         edge = record { from_low = omega arith; to_past = omega arith; end = inl (omega arith) };
       }
 
-  search_ladder : (j : ℕ) → PowerWithin m j → search_of (ladder d dates m) v zeros ≡ Rule 0 (d + j) true
+  search_ladder : (j : ℕ) → PowerWithin m j → search_of (ladder d dates m) v zeros ≡ matched 0 (d + j) true
   search_ladder j power =
       let R = ladder d dates m in
       let n = rules_in R in
@@ -348,10 +347,10 @@ module _ (d dates m : ℕ) (some : 1 ≤ d) (few : d ≤ 8) (rules : 1 ≤ m) (v
 
 -- ---- build, then lookup
 pub ladder_reaches : (d dates m k : ℕ) → 1 ≤ d → d ≤ 8 → 1 ≤ m → m ≤ most_rules → PowerWithin m k
-    → lookup_of (ladder d dates m) (built_table (ladder d dates m)) zeros ≡ Rule 0 (d + k) true
+    → lookup_of (ladder d dates m) (built_table (ladder d dates m)) zeros ≡ matched 0 (d + k) true
 ladder_reaches d dates m k some few rules few_rules power =
     let R = ladder d dates m in
     let promise = built_keeps_promise R (ladder_sound d dates m some) in
-    let opens = promise_opens R (built_table R) (shaped R (ap (λ x. x.number) (ladder_shape d dates m some few few_rules))) (table_sized R (first_fit R (rules_in R))) promise in
-    lookup_searches R (built_table R) zeros (ap (λ x. x.number) opens)
+    let opens = promise_opens R (built_table R) (shaped R (ladder_shape d dates m some few few_rules)) (table_sized R (first_fit R (rules_in R))) promise in
+    lookup_searches R (built_table R) zeros opens
     ∙ search_ladder d dates m some few rules (view_of R (built_table R)) promise (ladder-parts d dates m some rules) k power

@@ -13,9 +13,10 @@ use native.Mathlib.Omega.{arith}
 use lib.ListN.{length}
 use lib.Dec.{ltb, eqb}
 use borrow.Author.Tests.{ltb-true, ltb-false}
-use Rattle.std.specs.Prelude.{Option, Ok, Err}
+use Rattle.std.specs.Prelude.{Option, Ok, Err, Result}
 use Rattle.ranges.specs.Numbers.{pick, ◌or◌}
-use Rattle.ranges.specs.Refusals.{none, refused, or_else, stands, BadFields, BadLength, TooManyRules, BadTableLength, BrokenTable}
+use Rattle.ranges.specs.Refusals.{Fault, none, refusing, refused, or_else}
+use Rattle.ranges.specs.declared.refusal.Cause.TheVariants.{BadFields, BadLength, TooManyRules, BadTableLength, BrokenTable}
 use Rattle.ranges.specs.declared.refusal.Refusal.{Refusal}
 use Rattle.ranges.proofs.Numbers.{never}
 use Rattle.lists.specs.Limits.{most_rules}
@@ -25,10 +26,9 @@ use Rattle.lists.specs.Faults.{shape_fault}
 use Rattle.tables.specs.Layout.{View, table_length}
 use Rattle.tables.specs.Opening.{opening, view_of, open_fault}
 use Rattle.lookup.specs.Walk.{Walked, ran, broken_walk}
-use Rattle.lookup.specs.Lookup.{turn_of, answer_of, lookup_from, search_of, lookup_of}
+use Rattle.lookup.specs.Lookup.{turn_of, answer_of, lookup_from, search_of, lookup_of, matched, unmatched}
 use Rattle.lookup.specs.Bounds.{candidate, turn_made, is_skipped, refuses}
 use Rattle.lookup.specs.declared.lookup.Looked.{Looked}
-use Rattle.lookup.specs.declared.lookup.Looked.TheVariants.{Rule, Nothing, Refused}
 use Rattle.lookup.proofs.Turns.{turn_skipped, turn_visits, onward, from_none, made_broken, made_on}
 use Rattle.lookup.proofs.Lookups.{lookup_searches}
 use Rattle.lookup.proofs.Brokens.{BrokenPart, visit_broken_iff}
@@ -36,40 +36,43 @@ use Rattle.lookup.proofs.Brokens.{BrokenPart, visit_broken_iff}
 -- ---- with what
 -- 01, Refusal numbers: lookup: 1, 2, 3, 5, 6, each with place 0
 pub data RefusedBy : Refusal → Type 0 where
-  by_fields : RefusedBy (refused BadFields)
-  by_length : RefusedBy (refused BadLength)
-  by_rules : RefusedBy (refused TooManyRules)
-  by_table_length : RefusedBy (refused BadTableLength)
-  by_broken_table : RefusedBy (refused BrokenTable)
+  by_fields : RefusedBy (refusing BadFields 0 0)
+  by_length : RefusedBy (refusing BadLength 0 0)
+  by_rules : RefusedBy (refusing TooManyRules 0 0)
+  by_table_length : RefusedBy (refusing BadTableLength 0 0)
+  by_broken_table : RefusedBy (refusing BrokenTable 0 0)
 
 -- the opening's refusal by its tests: d is 0, d is past 8, the length is a multiple, more rules than 1,024, the table's length is right, the table opens
-abbrev fault : Bool → Bool → Bool → Bool → Bool → Bool → Refusal
+abbrev fault : Bool → Bool → Bool → Bool → Bool → Bool → Fault
 fault a b c e t o =
     or_else (pick (a or b) (refused BadFields) (pick (not c) (refused BadLength) (pick e (refused TooManyRules) none)))
     (or_else (pick t none (refused BadTableLength)) (pick o none (refused BrokenTable)))
 
 -- the opening's refusal, where there is one
-open_by : (R : Rules) (T : List ℕ) → stands (open_fault R T) ≡ false → RefusedBy (open_fault R T)
+open_by : (R : Rules) (T : List ℕ) {x : Refusal} → open_fault R T ≡ Err x → RefusedBy x
 unfolding open_fault shape_fault
-open_by R T =
+open_by R T {x} =
     go (ltb (fields_of R) 1) (ltb 8 (fields_of R)) (eqb (length R.numbers % (fields_of R * 2)) 0) (ltb most_rules (rules_in R))
     (eqb (length T) (table_length (rules_in R) (fields_of R))) (opening (rules_in R) (fields_of R) (view_of R T))
   where
-    go : (a b c e t o : Bool) → stands (fault a b c e t o) ≡ false → RefusedBy (fault a b c e t o)
-    go true b c e t o ne = by_fields
-    go false true c e t o ne = by_fields
-    go false false false e t o ne = by_length
-    go false false true true t o ne = by_rules
-    go false false true false false o ne = by_table_length
-    go false false true false true false ne = by_broken_table
-    go false false true false true true ne = never (cc)
+    by : {y : Refusal} → RefusedBy y → ◌≡◌ {A = Fault} (Err y) (Err x) → RefusedBy x
+    by {y} row is = let same : y ≡ x = cc in subst RefusedBy same row
+
+    go : (a b c e t o : Bool) → fault a b c e t o ≡ Err x → RefusedBy x
+    go true b c e t o is = by by_fields is
+    go false true c e t o is = by by_fields is
+    go false false false e t o is = by by_length is
+    go false false true true t o is = by by_rules is
+    go false false true false false o is = by by_table_length is
+    go false false true false true false is = by by_broken_table is
+    go false false true false true true is = never (cc)
 
 -- ---- a search that was refused, whatever a turn is
 module _ (R : Rules) (h : List ℕ) (turn : ℕ → ℕ → Walked) where
-  answer_not : (best t : ℕ) (x : Refusal) → answer_of R h best t ≡ Refused x → ⊥
+  answer_not : (best t : ℕ) (x : Refusal) → answer_of R h best t ≡ Err x → ⊥
   answer_not best t x = go (ltb best (rules_in R))
     where
-      go : (p : Bool) → pick p (Rule best t (edge_of R h best)) (Nothing t) ≡ Refused x → ⊥
+      go : (p : Bool) → pick p (matched best t (edge_of R h best)) (unmatched t) ≡ Err x → ⊥
       go true is = never (cc)
       go false is = never (cc)
 
@@ -79,7 +82,7 @@ module _ (R : Rules) (h : List ℕ) (turn : ℕ → ℕ → Walked) where
 
   -- a search of k partitions from q on that was refused: with 6, at the first of them whose turn is broken
   record Stopped (k q : ℕ) (x : Refusal) : Type 0 where
-    by_6 : x ≡ refused BrokenTable
+    by_6 : x ≡ refusing BrokenTable 0 0
     part : ℕ
     from : q ≤ part
     to : part < q + k
@@ -109,47 +112,47 @@ module _ (R : Rules) (h : List ℕ) (turn : ℕ → ℕ → Walked) where
         before = λ p a b is. later.before p (broken_later p q y u at is a) b is;
       }
 
-  from_stopped : (k q t : ℕ) (x : Refusal) → onward R h turn k q t ≡ Refused x → Stopped k q x
+  from_stopped : (k q t : ℕ) (x : Refusal) → onward R h turn k q t ≡ Err x → Stopped k q x
   from_stopped zero q t x is = absurd (answer_not (candidate (rules_in R) turn q) t x (sym (from_none R h turn q (candidate (rules_in R) turn q) t) ∙ is))
   from_stopped (suc k) q t x is = go (made q) refl (from_stopped k)
     where
-      go : (w : Walked) → made q ≡ w → ((q t : ℕ) (x : Refusal) → onward R h turn k q t ≡ Refused x → Stopped k q x) → Stopped (suc k) q x
+      go : (w : Walked) → made q ≡ w → ((q t : ℕ) (x : Refusal) → onward R h turn k q t ≡ Err x → Stopped k q x) → Stopped (suc k) q x
       go (Err b) at rest =
           let is_x = sym (made_broken R h turn k q t at) ∙ is in
           record { by_6 = cc; part = q; from = omega arith; to = omega arith; broken = at; before = λ p a b. absurd (omega arith) }
       go (Ok y) at rest =
           stopped_later k q x y.found y.tests at (rest (suc q) (t + y.tests) x (sym (made_on R h turn k q t y.found y.tests at) ∙ is))
 
-  search_stopped : (b : ℕ) (x : Refusal) → lookup_from R h turn b 0 (rules_in R) 0 ≡ Refused x → Stopped b 0 x
+  search_stopped : (b : ℕ) (x : Refusal) → lookup_from R h turn b 0 (rules_in R) 0 ≡ Err x → Stopped b 0 x
   unfolding candidate
   search_stopped b x is = from_stopped b 0 0 x is
 
   -- the other way round: a turn that is broken refuses the search
-  from_refused : (k q t p : ℕ) → q ≤ p → p < q + k → made p ≡ broken_walk → onward R h turn k q t ≡ Refused (refused BrokenTable)
+  from_refused : (k q t p : ℕ) → q ≤ p → p < q + k → made p ≡ broken_walk → onward R h turn k q t ≡ refused BrokenTable
   from_refused zero q t p a b is = absurd (omega arith)
   from_refused (suc k) q t p a b is = go (made q) refl (from_refused k)
     where
-      go : (w : Walked) → made q ≡ w → ((q t p : ℕ) → q ≤ p → p < q + k → made p ≡ broken_walk → onward R h turn k q t ≡ Refused (refused BrokenTable))
-          → onward R h turn (suc k) q t ≡ Refused (refused BrokenTable)
+      go : (w : Walked) → made q ≡ w → ((q t p : ℕ) → q ≤ p → p < q + k → made p ≡ broken_walk → onward R h turn k q t ≡ refused BrokenTable)
+          → onward R h turn (suc k) q t ≡ refused BrokenTable
       go (Err b) at rest = made_broken R h turn k q t at
       go (Ok x) at rest =
           made_on R h turn k q t x.found x.tests at ∙ rest (suc q) (t + x.tests) p (broken_later p q x.found x.tests at is a) (omega arith) is
 
-  search_refused : (b p : ℕ) → p < b → made p ≡ broken_walk → lookup_from R h turn b 0 (rules_in R) 0 ≡ Refused (refused BrokenTable)
+  search_refused : (b p : ℕ) → p < b → made p ≡ broken_walk → lookup_from R h turn b 0 (rules_in R) 0 ≡ refused BrokenTable
   unfolding candidate
   search_refused b p lt is = from_refused b 0 0 p (omega arith) (omega arith) is
 
-pub refused-by : (R : Rules) (T h : List ℕ) (x : Refusal) → lookup_of R T h ≡ Refused x → RefusedBy x
+pub refused-by : (R : Rules) (T h : List ℕ) (x : Refusal) → lookup_of R T h ≡ Err x → RefusedBy x
 unfolding lookup_of
-refused-by R T h x = go (stands (open_fault R T)) refl
+refused-by R T h x = go (open_fault R T) refl
   where
-    go : (p : Bool) → stands (open_fault R T) ≡ p → pick p (search_of R (view_of R T) h) (Refused (open_fault R T)) ≡ Refused x → RefusedBy x
-    go true e is =
+    go : (y : Fault) → open_fault R T ≡ y → or_else y (search_of R (view_of R T) h) ≡ Err x → RefusedBy x
+    go (Ok u) e is =
         let stopped = search_stopped R h (turn_of R (view_of R T) h) (view_of R T).b x is in
         rw stopped.by_6 by_broken_table
-    go false e is =
-        let by-opening : open_fault R T ≡ x = cc in
-        subst RefusedBy by-opening (open_by R T e)
+    go (Err y) e is =
+        let same : y ≡ x = cc in
+        open_by R T (e ∙ ap Err same)
 
 -- ---- when
 -- some partition is not skipped and broken, and none before it
@@ -173,16 +176,16 @@ turn_broken_iff R v h q = (to (is_skipped R v h q) refl, λ b. turn_visits R v h
     to false e is = (e, (visit_broken_iff R v h q).0 (sym (turn_visits R v h best q e) ∙ is))
 
 -- of a table that opens
-module _ (R : Rules) (T h : List ℕ) (opens : (open_fault R T).number ≡ 0) where
+module _ (R : Rules) (T h : List ℕ) (opens : open_fault R T ≡ none) where
   -- a partition that is not skipped and is broken refuses the whole call with 6
   pub lookup_broken : (q : ℕ) → q < (view_of R T).b → is_skipped R (view_of R T) h q ≡ false → BrokenPart R (view_of R T) h q
-      → lookup_of R T h ≡ Refused (refused BrokenTable)
+      → lookup_of R T h ≡ refused BrokenTable
   lookup_broken q lt visited broken =
       lookup_searches R T h opens
       ∙ search_refused R h (turn_of R (view_of R T) h) (view_of R T).b q lt ((turn_broken_iff R (view_of R T) h q).1 (visited, broken))
 
   -- a refusal names the first of them
-  lookup_stopped : (x : Refusal) → lookup_of R T h ≡ Refused x → FirstBroken R (view_of R T) h
+  lookup_stopped : (x : Refusal) → lookup_of R T h ≡ Err x → FirstBroken R (view_of R T) h
   lookup_stopped x is =
       let v = view_of R T in
       let stopped = search_stopped R h (turn_of R v h) v.b x (sym (lookup_searches R T h opens) ∙ is) in
@@ -195,17 +198,16 @@ module _ (R : Rules) (T h : List ℕ) (opens : (open_fault R T).number ≡ 0) wh
         before = λ p lt visited broken. stopped.before p (omega arith) lt ((turn_broken_iff R v h p).1 (visited, broken));
       }
 
-  pub lookup_6_iff : (lookup_of R T h ≡ Refused (refused BrokenTable)) ↔ FirstBroken R (view_of R T) h
-  lookup_6_iff = (lookup_stopped (refused BrokenTable), λ first. lookup_broken first.part first.inside first.visited first.broken)
+  pub lookup_6_iff : (lookup_of R T h ≡ refused BrokenTable) ↔ FirstBroken R (view_of R T) h
+  lookup_6_iff = (lookup_stopped (refusing BrokenTable 0 0), λ first. lookup_broken first.part first.inside first.visited first.broken)
 
   -- and nothing else refuses
   pub lookup_fine : ((q : ℕ) → q < (view_of R T).b → is_skipped R (view_of R T) h q ≡ false → BrokenPart R (view_of R T) h q → ⊥)
       → refuses (lookup_of R T h) ≡ false
   lookup_fine fine = go (lookup_of R T h) refl
     where
-      go : (w : Looked) → lookup_of R T h ≡ w → refuses w ≡ false
-      go (Rule i t e) is = refl
-      go (Nothing t) is = refl
-      go (Refused x) is =
+      go : (w : Result Looked Refusal) → lookup_of R T h ≡ w → refuses w ≡ false
+      go (Ok y) is = refl
+      go (Err x) is =
           let first = lookup_stopped x is in
           absurd (fine first.part first.inside first.visited first.broken)

@@ -43,10 +43,11 @@ use mathlib.Core.List.{List, []}
 use mathlib.Core.Logic.{◌↔◌}
 use mathlib.Core.Path.{◌≡◌, refl, sym, ap, ◌∙◌}
 use native.Mathlib.Omega.{arith}
+use Rattle.std.specs.Prelude.{Result, Ok, Err}
 use Rattle.ranges.specs.Numbers.{pick}
-use Rattle.ranges.specs.Refusals.{none, refused, BrokenTable}
+use Rattle.ranges.specs.Refusals.{none, refused}
+use Rattle.ranges.specs.declared.refusal.Cause.TheVariants.{BrokenTable}
 use Rattle.ranges.specs.declared.refusal.Refusal.{Refusal}
-use Rattle.ranges.specs.declared.refusal.Count.TheVariants.{Is as CountIs}
 use Rattle.lists.specs.Limits.{most_rules}
 use Rattle.lists.specs.declared.shape.Shape.{Shape}
 use Rattle.lists.specs.Rules.{Rules, listed, fields_of, rules_in}
@@ -68,14 +69,12 @@ use Rattle.sorting.proofs.Sorted.Kept.{choice_keeps_promise}
 use Rattle.sorting.proofs.Sorted.Built.{built_keeps_promise, list_keeps_promise}
 use Rattle.sorting.proofs.Theorems.{build_is_b_iff, built_table_lem, lay_out_is_b_iff, laid_table}
 use Rattle.auditing.specs.Audit.{audit_of}
-use Rattle.auditing.specs.declared.audit.Verdict.TheVariants.{Yes}
 use Rattle.auditing.proofs.Theorems.{audit_fine, audited_promises}
 use Rattle.lookup.specs.Walk.{walk_from}
-use Rattle.lookup.specs.Lookup.{visit_of, answer_of, search_of, search_all, lookup_of, match_in, tests_in, edge_in}
+use Rattle.lookup.specs.Lookup.{visit_of, answer_of, search_of, search_all, lookup_of, match_in, tests_in, edge_in, matched, unmatched}
 use Rattle.lookup.specs.Bounds.{PowerWithin, tests_of, is_skipped, sum_from, refuses, ladder}
 use Rattle.lists.specs.Headers.{zeros}
 use Rattle.lookup.specs.declared.lookup.Looked.{Looked}
-use Rattle.lookup.specs.declared.lookup.Looked.TheVariants.{Rule, Nothing, Refused}
 use Rattle.lookup.proofs.Enough.{enough_one}
 use Rattle.lookup.proofs.Returned.{rule_returned}
 use Rattle.lookup.proofs.Unread.{Agree, lookup_same}
@@ -96,34 +95,34 @@ walk_enough = enough_one
 
 module _ (R : Rules) (T h : List ℕ) where
   -- who acts on a rule returned may rely on it, even if the table is damaged
-  pub returned_rule_fits : (i t : ℕ) (e : Bool) → lookup_of R T h ≡ Rule i t e → (i < rules_in R) × (fits R h i ≡ true)
+  pub returned_rule_fits : (i t : ℕ) (e : Bool) → lookup_of R T h ≡ matched i t e → (i < rules_in R) × (fits R h i ≡ true)
   returned_rule_fits i t e is = let m = (rule_returned R T h i t e is).matches in (m.rule, m.fit)
 
   -- the edge speaks of the rule returned with it, and of no candidate that lost
-  pub edge_is_the_winners : (i t : ℕ) (e : Bool) → lookup_of R T h ≡ Rule i t e → e ≡ edge_of R h i
+  pub edge_is_the_winners : (i t : ℕ) (e : Bool) → lookup_of R T h ≡ matched i t e → e ≡ edge_of R h i
   edge_is_the_winners i t e is = (rule_returned R T h i t e is).edge
 
   -- a refusal can't be taken for an answer
-  pub refusal_carries_nothing : (x : Refusal) → lookup_of R T h ≡ Refused x
+  pub refusal_carries_nothing : (x : Refusal) → lookup_of R T h ≡ Err x
       → (match_in (lookup_of R T h) ≡ []) × (tests_in (lookup_of R T h) ≡ 0) × (edge_in (lookup_of R T h) ≡ false)
   refusal_carries_nothing x is = (ap match_in is, ap tests_in is, ap edge_in is)
 
-  pub none_has_no_edge : (t : ℕ) → lookup_of R T h ≡ Nothing t → edge_in (lookup_of R T h) ≡ false
+  pub none_has_no_edge : (t : ℕ) → lookup_of R T h ≡ unmatched t → edge_in (lookup_of R T h) ≡ false
   none_has_no_edge t is = ap edge_in is
 
   -- no refusal is given for another cause
-  pub refused_by_a_row : (x : Refusal) → lookup_of R T h ≡ Refused x → RefusedBy x
+  pub refused_by_a_row : (x : Refusal) → lookup_of R T h ≡ Err x → RefusedBy x
   refused_by_a_row = refused-by R T h
 
-  pub opening-refuses : ((open_fault R T).number ≡ 0 → ⊥) → lookup_of R T h ≡ Refused (open_fault R T)
+  pub opening-refuses : {x : Refusal} → open_fault R T ≡ Err x → lookup_of R T h ≡ Err x
   opening-refuses = lookup_refused R T h
 
-  module _ (opens : (open_fault R T).number ≡ 0) where
+  module _ (opens : open_fault R T ≡ none) where
     -- a partition is skipped by the stored number and the candidate of those before alone (`is_skipped`), and what is in it refuses nothing then.
     -- What breaks partition q is one of the paper's own conditions (`Brokens.antt`): its starts, or at a group that the walk reaches the rule
     -- number or the run read at the middle place, or at field d the group's size, its rule number or the confirming comparison
     pub broken_partition_refuses : (q : ℕ) → q < (view_of R T).b → is_skipped R (view_of R T) h q ≡ false → BrokenPart R (view_of R T) h q
-        → lookup_of R T h ≡ Refused (refused BrokenTable)
+        → lookup_of R T h ≡ refused BrokenTable
     broken_partition_refuses = lookup_broken R T h opens
 
     pub nothing_else_refuses : ((q : ℕ) → q < (view_of R T).b → is_skipped R (view_of R T) h q ≡ false → BrokenPart R (view_of R T) h q → ⊥)
@@ -131,7 +130,7 @@ module _ (R : Rules) (T h : List ℕ) where
     nothing_else_refuses = lookup_fine R T h opens
 
     -- so of a table that opens 6 is given exactly where some partition is not skipped and broken; the first that is, is the one met
-    pub refuses_6_iff : (lookup_of R T h ≡ Refused (refused BrokenTable)) ↔ FirstBroken R (view_of R T) h
+    pub refuses_6_iff : (lookup_of R T h ≡ refused BrokenTable) ↔ FirstBroken R (view_of R T) h
     refuses_6_iff = lookup_6_iff R T h opens
 
 -- a caller may leave anything in the numbers past d
@@ -139,7 +138,7 @@ pub numbers_past_d_unread : (R : Rules) (T h h' : List ℕ) → Agree (fields_of
 numbers_past_d_unread = lookup_same
 
 -- a build under flags s leaves a table, and a lookup under flags t reads it: what it returns fits under t, all dates and others as t has them
-pub other_flags_still_fit : (s t : Shape) (l T h : List ℕ) (i n : ℕ) (e : Bool) → lookup_of (listed t l) (table_after (listed s l) T) h ≡ Rule i n e
+pub other_flags_still_fit : (s t : Shape) (l T h : List ℕ) (i n : ℕ) (e : Bool) → lookup_of (listed t l) (table_after (listed s l) T) h ≡ matched i n e
     → (i < rules_in (listed t l)) × (fits (listed t l) h i ≡ true)
 other_flags_still_fit s t l T h = returned_rule_fits (listed t l) (table_after (listed s l) T) h
 
@@ -155,14 +154,14 @@ lookup_is_first_match R T shape sized promise h =
 
 -- so such a table answers rule i exactly when i is the first rule that fits, and none exactly when no rule fits
 module _ (R : Rules) (T : List ℕ) (shape : Shaped R) (sized : TableFor (rules_in R) (fields_of R) T) (promise : Promise R (view_of R T)) (h : List ℕ) where
-  pub lookup_rule_iff : (i : ℕ) → ((t : ℕ) × (lookup_of R T h ≡ Rule i t (edge_of R h i))) ↔ First R h i
+  pub lookup_rule_iff : (i : ℕ) → ((t : ℕ) × (lookup_of R T h ≡ matched i t (edge_of R h i))) ↔ First R h i
   lookup_rule_iff = matched_rule_iff R h (lookup_of R T h) (tests_in (lookup_of R T h)) (lookup_is_first_match R T shape sized promise h)
 
-  pub lookup_none_iff : ((t : ℕ) × (lookup_of R T h ≡ Nothing t)) ↔ NoneFits R h
+  pub lookup_none_iff : ((t : ℕ) × (lookup_of R T h ≡ unmatched t)) ↔ NoneFits R h
   lookup_none_iff = matched_none_iff R h (lookup_of R T h) (tests_in (lookup_of R T h)) (lookup_is_first_match R T shape sized promise h)
 
 -- a list that the build does not refuse
-module _ (R : Rules) (fine : (list_fault R).number ≡ 0) where
+module _ (R : Rules) (fine : list_fault R ≡ none) where
   pub choice_then_lookup : (run : List ℕ) (b : ℕ) → Choice R run b → (h : List ℕ)
       → lookup_of R (table_of R run) h ≡ answer_of R h (first_match R h) (tests_in (lookup_of R (table_of R run) h))
   choice_then_lookup run b choice =
@@ -173,14 +172,14 @@ module _ (R : Rules) (fine : (list_fault R).number ≡ 0) where
 
 -- whatever list and table a build was handed: where it answered a number of partitions, and so refused nothing, the table that it left
 -- gives every header its first match
-pub build_then_lookup : (R : Rules) (T : List ℕ) (b : ℕ) → build_of R T ≡ CountIs b → (h : List ℕ)
+pub build_then_lookup : (R : Rules) (T : List ℕ) (b : ℕ) → build_of R T ≡ Ok b → (h : List ℕ)
     → lookup_of R (table_after R T) h ≡ answer_of R h (first_match R h) (tests_in (lookup_of R (table_after R T) h))
 build_then_lookup R T b answered h =
     let able = ((build_is_b_iff R T b).0 answered).0 in
     rw (built_table_lem R T able) (built_lookup R able.no_fault h)
 
 -- the same of a laying out, whatever run it was handed
-pub lay_out_then_lookup : (R : Rules) (run T : List ℕ) (b : ℕ) → lay_out_of R run T ≡ CountIs b → (h : List ℕ)
+pub lay_out_then_lookup : (R : Rules) (run T : List ℕ) (b : ℕ) → lay_out_of R run T ≡ Ok b → (h : List ℕ)
     → lookup_of R (laid_after R run T) h ≡ answer_of R h (first_match R h) (tests_in (lookup_of R (laid_after R run T) h))
 lay_out_then_lookup R run T b answered h =
     let able = ((lay_out_is_b_iff R run T b).0 answered).0 in
@@ -188,14 +187,14 @@ lay_out_then_lookup R run T b answered h =
 
 -- of the table that a build left: a caller who gets a rule has the first that fits, and one who gets none knows that no rule fits; by `build_then_lookup` there is no
 -- third answer
-module _ (R : Rules) (T : List ℕ) (b : ℕ) (answered : build_of R T ≡ CountIs b) (h : List ℕ) where
-  abbrev found : Looked
+module _ (R : Rules) (T : List ℕ) (b : ℕ) (answered : build_of R T ≡ Ok b) (h : List ℕ) where
+  abbrev found : Result Looked Refusal
   found = lookup_of R (table_after R T) h
 
-  pub built_rule_iff : (i : ℕ) → ((t : ℕ) × (lookup_of R (table_after R T) h ≡ Rule i t (edge_of R h i))) ↔ First R h i
+  pub built_rule_iff : (i : ℕ) → ((t : ℕ) × (lookup_of R (table_after R T) h ≡ matched i t (edge_of R h i))) ↔ First R h i
   built_rule_iff = matched_rule_iff R h found (tests_in found) (build_then_lookup R T b answered h)
 
-  pub built_none_iff : ((t : ℕ) × (lookup_of R (table_after R T) h ≡ Nothing t)) ↔ NoneFits R h
+  pub built_none_iff : ((t : ℕ) × (lookup_of R (table_after R T) h ≡ unmatched t)) ↔ NoneFits R h
   built_none_iff = matched_none_iff R h found (tests_in found) (build_then_lookup R T b answered h)
 
 -- ---- 3. the count is the written walk's, and small
@@ -227,7 +226,7 @@ module _ (R : Rules) (T h : List ℕ) where
         let each = sum_le b 0 spent (λ q. fields_of R + k q) (λ q a lt. omega (arith, picked_le (is_skipped R (view_of R T) h q) (cost q), partition_tests q (k q) (power q (omega arith)))) in
         omega (arith, count_is_the_sum)
 
-  pub empty_list_costs_none : rules_in R ≡ 0 → (open_fault R T).number ≡ 0 → lookup_of R T h ≡ Nothing 0
+  pub empty_list_costs_none : rules_in R ≡ 0 → open_fault R T ≡ none → lookup_of R T h ≡ unmatched 0
   empty_list_costs_none = none_costs_none R T h
 
 -- skipping alters neither the match nor its edge, and makes no test more: v is any view that keeps the promise
@@ -253,7 +252,7 @@ pub record Served (R : Rules) (T h : List ℕ) : Type 0 where
   pub the_sum : tests_in (lookup_of R T h) ≡ sum_from (view_of R T).b 0 (spent R T h)
   pub few_tests : (q k : ℕ) → PowerWithin (size R T h q) k → cost R T h q ≤ fields_of R + k
 
-pub audited_then_lookup : (R : Rules) (T : List ℕ) → audit_of R T ≡ Yes → (h : List ℕ) → Served R T h
+pub audited_then_lookup : (R : Rules) (T : List ℕ) → audit_of R T ≡ Ok true → (h : List ℕ) → Served R T h
 audited_then_lookup R T yes-said h =
     let able = audit_fine R T yes-said in
     let first = lookup_is_first_match R T (list_shaped R able.no_fault) able.sized (audited_promises R T yes-said) h in
@@ -269,7 +268,7 @@ pub record Reached (d dates m k : ℕ) : Type 0 where
   pub rules : rules_in (ladder d dates m) ≡ m
   pub one_part : (view_of (ladder d dates m) (built_table (ladder d dates m))).b ≡ 1
   pub of_all : (view_of (ladder d dates m) (built_table (ladder d dates m))).start 1 ≡ m
-  pub tests : lookup_of (ladder d dates m) (built_table (ladder d dates m)) zeros ≡ Rule 0 (d + k) true
+  pub tests : lookup_of (ladder d dates m) (built_table (ladder d dates m)) zeros ≡ matched 0 (d + k) true
 
 pub bound_is_reached : (d dates m k : ℕ) → 1 ≤ d → d ≤ 8 → 1 ≤ m → m ≤ most_rules → PowerWithin m k → Reached d dates m k
 bound_is_reached d dates m k some few rules few_rules power =

@@ -15,11 +15,13 @@ use mathlib.Core.Bool.{Bool, true, false}
 use mathlib.Core.List.{List}
 use mathlib.Core.Path.{◌≡◌, refl, sym, ap, ◌∙◌}
 use native.Mathlib.Omega.{arith}
-use lib.Dec.{ltb, eqb}
+use lib.Dec.{ltb}
 use lib.Pow.{pow_pos}
-use borrow.Author.Tests.{le-ltb, ltb-true, ltb-false, eqb-true}
-use Rattle.std.specs.Prelude.{None, Ok, Err}
+use borrow.Author.Tests.{le-ltb, ltb-true, ltb-false}
+use Rattle.std.specs.Prelude.{None, Ok, Err, Result}
+use Rattle.ranges.specs.declared.refusal.Refusal.{Refusal}
 use Rattle.ranges.specs.Numbers.{pick}
+use Rattle.ranges.specs.Refusals.{Fault, none, or_else}
 use Rattle.ranges.proofs.Numbers.{never}
 use Rattle.lists.specs.Rules.{Rules, fields_of, rules_in}
 use Rattle.lists.specs.Edges.{edge_of}
@@ -27,10 +29,9 @@ use Rattle.tables.specs.Layout.{View}
 use Rattle.tables.specs.Opening.{view_of, open_fault}
 use Rattle.tables.proofs.Opened.{opened}
 use Rattle.lookup.specs.Walk.{Walked, ran}
-use Rattle.lookup.specs.Lookup.{skips, turn_of, visit_of, answer_of, lookup_from, search_of, lookup_of, tests_in}
+use Rattle.lookup.specs.Lookup.{skips, turn_of, visit_of, answer_of, lookup_from, search_of, lookup_of, tests_in, matched, unmatched}
 use Rattle.lookup.specs.Bounds.{PowerWithin, tests_of, candidate, turn_made, is_skipped, sum_from, refuses}
 use Rattle.lookup.specs.declared.lookup.Looked.{Looked}
-use Rattle.lookup.specs.declared.lookup.Looked.TheVariants.{Rule, Nothing, Refused}
 use Rattle.lookup.proofs.Counts.{walk_few}
 use Rattle.lookup.proofs.Visits.{visited_walks}
 use Rattle.lookup.proofs.Turns.{onward, from_none, made_broken, made_on}
@@ -79,10 +80,10 @@ sum_same (suc k) q g f h = rw (h q, sum_same k (suc q) g f h)
 -- ---- the count
 -- what holds of a rule and of none holds of an answer
 module _ (R : Rules) (h : List ℕ) (best t : ℕ) where
-  answered : (P : Looked → Type 0) → P (Rule best t (edge_of R h best)) → P (Nothing t) → P (answer_of R h best t)
+  answered : (P : Result Looked Refusal → Type 0) → P (matched best t (edge_of R h best)) → P (unmatched t) → P (answer_of R h best t)
   answered P rule nothing = go (ltb best (rules_in R))
     where
-      go : (p : Bool) → P (pick p (Rule best t (edge_of R h best)) (Nothing t))
+      go : (p : Bool) → P (pick p (matched best t (edge_of R h best)) (unmatched t))
       go true = rule
       go false = nothing
 
@@ -93,11 +94,11 @@ module _ (R : Rules) (h : List ℕ) (best t : ℕ) where
   answer_stands = answered (λ x. refuses x ≡ false) refl refl
 
 -- what is read off a rule and off none without their tests is read off an answer without them
-pub answer_alike : (R : Rules) (h : List ℕ) (best t u : ℕ) {A : Type 0} (f : Looked → A) → f (Rule best t (edge_of R h best)) ≡ f (Rule best u (edge_of R h best))
-    → f (Nothing t) ≡ f (Nothing u) → f (answer_of R h best t) ≡ f (answer_of R h best u)
+pub answer_alike : (R : Rules) (h : List ℕ) (best t u : ℕ) {A : Type 0} (f : Result Looked Refusal → A) → f (matched best t (edge_of R h best)) ≡ f (matched best u (edge_of R h best))
+    → f (unmatched t) ≡ f (unmatched u) → f (answer_of R h best t) ≡ f (answer_of R h best u)
 answer_alike R h best t u f rule nothing = go (ltb best (rules_in R))
   where
-    go : (p : Bool) → f (pick p (Rule best t (edge_of R h best)) (Nothing t)) ≡ f (pick p (Rule best u (edge_of R h best)) (Nothing u))
+    go : (p : Bool) → f (pick p (matched best t (edge_of R h best)) (unmatched t)) ≡ f (pick p (matched best u (edge_of R h best)) (unmatched u))
     go true = rule
     go false = nothing
 
@@ -140,13 +141,13 @@ picked_le false t = omega arith
 
 module _ (R : Rules) (T h : List ℕ) where
   -- a lookup that is not refused opens
-  fine_opens : refuses (lookup_of R T h) ≡ false → (open_fault R T).number ≡ 0
+  fine_opens : refuses (lookup_of R T h) ≡ false → open_fault R T ≡ none
   unfolding lookup_of
-  fine_opens = go (eqb (open_fault R T).number 0) refl
+  fine_opens = go (open_fault R T)
     where
-      go : (p : Bool) → eqb (open_fault R T).number 0 ≡ p → refuses (pick p (search_of R (view_of R T) h) (Refused (open_fault R T))) ≡ false → (open_fault R T).number ≡ 0
-      go true e fine = eqb-true (open_fault R T).number 0 e
-      go false e fine = never (cc)
+      go : (x : Fault) → refuses (or_else x (search_of R (view_of R T) h)) ≡ false → x ≡ none
+      go (Ok u) fine = refl
+      go (Err x) fine = never (cc)
 
   pub lookup_sum : refuses (lookup_of R T h) ≡ false
       → tests_in (lookup_of R T h) ≡ sum_from (view_of R T).b 0 (λ q. pick (is_skipped R (view_of R T) h q) 0 (tests_of (visit_of R (view_of R T) h q)))
@@ -158,7 +159,7 @@ module _ (R : Rules) (T h : List ℕ) where
       ∙ sum_same v.b 0 (λ q. tests_of (turn_made (rules_in R) (turn_of R v h) q)) (λ q. pick (is_skipped R v h q) 0 (tests_of (visit_of R v h q)))
       (λ q. turn_tests R v h (candidate (rules_in R) (turn_of R v h) q) q)
 
-  pub none_costs_none : rules_in R ≡ 0 → (open_fault R T).number ≡ 0 → lookup_of R T h ≡ Nothing 0
+  pub none_costs_none : rules_in R ≡ 0 → open_fault R T ≡ none → lookup_of R T h ≡ unmatched 0
   none_costs_none none z =
       let few = (opened R T z).few_parts in
       let no-parts : (view_of R T).b ≡ 0 = omega arith in

@@ -13,9 +13,11 @@ use native.Mathlib.Nat.{add-zero}
 use native.Mathlib.Numerals.{add-one}
 use lib.Dec.{ltb}
 use borrow.Author.Tests.{lt-ltb, le-ltb, ltb-true}
-use Rattle.std.specs.Prelude.{◌↔◌, Option, Some, None, unwrap_or, IsTrue, IsSomeAnd}
+use Rattle.std.specs.Prelude.{◌↔◌, Option, Some, None, unwrap_or, IsTrue, IsSomeAnd, Result}
 use Rattle.ranges.specs.Numbers.{◌and◌}
-use Rattle.ranges.specs.Refusals.{refused, BrokenTable}
+use Rattle.ranges.specs.Refusals.{refused}
+use Rattle.ranges.specs.declared.refusal.Refusal.{Refusal}
+use Rattle.ranges.specs.declared.refusal.Cause.TheVariants.{BrokenTable}
 use Rattle.ranges.proofs.Numbers.{never}
 use Rattle.lists.specs.Limits.{most_rules}
 use Rattle.lists.specs.Rules.{Rules, Shaped, fields_of, rules_in}
@@ -23,10 +25,9 @@ use Rattle.lists.specs.Edges.{rule_edge}
 use Rattle.lists.proofs.Edges.{edge_listed}
 use Rattle.tables.specs.Layout.{View}
 use Rattle.lookup.specs.Walk.{Walked, ran, broken_walk}
-use Rattle.lookup.specs.Lookup.{skips, turn_of, visit_of, better, sooner, answer_of, lookup_from}
+use Rattle.lookup.specs.Lookup.{skips, turn_of, visit_of, better, sooner, answer_of, lookup_from, matched, unmatched}
 use Rattle.lookup.specs.Bounds.{candidate, turn_made}
 use Rattle.lookup.specs.declared.lookup.Looked.{Looked}
-use Rattle.lookup.specs.declared.lookup.Looked.TheVariants.{Rule, Nothing, Refused}
 use Rattle.lookup.proofs.Visits.{visit_few}
 use Rattle.lookup.proofs.Returned.{visit_fits}
 
@@ -51,7 +52,7 @@ module _ (R : Rules) (h : List ℕ) (turn : ℕ → ℕ → Walked) where
   from_none q best t = refl
 
   module _ (k q best t : ℕ) where
-    pub from_broken : turn best q ≡ broken_walk → lookup_from R h turn (suc k) q best t ≡ Refused (refused BrokenTable)
+    pub from_broken : turn best q ≡ broken_walk → lookup_from R h turn (suc k) q best t ≡ refused BrokenTable
     unfolding lookup_from
     from_broken is = rw is
 
@@ -60,11 +61,11 @@ module _ (R : Rules) (h : List ℕ) (turn : ℕ → ℕ → Walked) where
     from_on x u is = rw is
 
   -- the same, with the candidate of the partitions before: those from q on
-  abbrev pub onward : ℕ → ℕ → ℕ → Looked
+  abbrev pub onward : ℕ → ℕ → ℕ → Result Looked Refusal
   onward k q t = lookup_from R h turn k q (candidate (rules_in R) turn q) t
 
   module _ (k q t : ℕ) where
-    pub made_broken : turn_made (rules_in R) turn q ≡ broken_walk → onward (suc k) q t ≡ Refused (refused BrokenTable)
+    pub made_broken : turn_made (rules_in R) turn q ≡ broken_walk → onward (suc k) q t ≡ refused BrokenTable
     made_broken = from_broken k q (candidate (rules_in R) turn q) t
 
     pub made_on : (x : Option ℕ) (u : ℕ) → turn_made (rules_in R) turn q ≡ ran x u → onward (suc k) q t ≡ onward k (suc q) (t + u)
@@ -151,7 +152,7 @@ module _ {R : Rules} {v : View} {h : List ℕ} {n b q : ℕ} {best : Option ℕ}
 
   module _ (lt : q < b) (told : IsTrue false ↔ IsSomeAnd best (λ i. i < v.least q)) where
     -- it is not, and broken
-    pub visited_broken : broken_walk ≡ visit_of R v h q → lookup_from R h (turn_of R v h) b 0 n 0 ≡ Refused (refused BrokenTable)
+    pub visited_broken : broken_walk ≡ visit_of R v h q → lookup_from R h (turn_of R v h) b 0 n 0 ≡ refused BrokenTable
     visited_broken is =
         seen.rest (suc (b - q - 1)) (omega arith)
         ∙ from_broken R h (turn_of R v h) (b - q - 1) q (unwrap_or best n) t (visits told refl ∙ sym is)
@@ -167,12 +168,12 @@ module _ {R : Rules} {v : View} {h : List ℕ} {n b q : ℕ} {best : Option ℕ}
   visited_all le = seen.rest 0 (omega (arith, seen.in_order)) ∙ from_none R h (turn_of R v h) q (unwrap_or best n) t
 
   -- a match, with whether it has a field at an end as a callee told; or none
-  pub visited_match : Shaped R → b ≤ q → (i : ℕ) → best ≡ Some i → (e : Bool) → e ≡ rule_edge R h i → lookup_from R h (turn_of R v h) b 0 n 0 ≡ Rule i t e
+  pub visited_match : Shaped R → b ≤ q → (i : ℕ) → best ≡ Some i → (e : Bool) → e ≡ rule_edge R h i → lookup_from R h (turn_of R v h) b 0 n 0 ≡ matched i t e
   visited_match shape le i is e is-e =
       let under : i < rules_in R = omega (arith, seen.rules, seen.of_list i is) in
       visited_all le ∙ rw (is, lt-ltb i (rules_in R) under, is-e, edge_listed R h i shape under)
 
-  pub visited_nothing : b ≤ q → best ≡ None → lookup_from R h (turn_of R v h) b 0 n 0 ≡ Nothing t
+  pub visited_nothing : b ≤ q → best ≡ None → lookup_from R h (turn_of R v h) b 0 n 0 ≡ unmatched t
   visited_nothing le is =
       let over : rules_in R ≤ n = omega (arith, seen.rules) in
       visited_all le ∙ rw (is, le-ltb n (rules_in R) over)

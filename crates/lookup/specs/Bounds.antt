@@ -1,14 +1,14 @@
 -- What the bound on tests speaks of: the largest power of two within a number, the tests of a visit, which partitions are skipped, a sum,
 -- and the list and the header that reach the bound.
 -- Assumes nothing: these are definitions.
-use Rattle.std.specs.Prelude.{ℕ, zero, suc, ◌+◌, ◌*◌, ◌/◌, ◌%◌, ◌^◌, ◌≤◌, ◌<◌, Bool, true, false, List, Option, None, Ok, Err}
+use Rattle.std.specs.Prelude.{ℕ, zero, suc, ◌+◌, ◌*◌, ◌/◌, ◌%◌, ◌^◌, ◌≤◌, ◌<◌, Bool, true, false, List, Option, None, Result, Ok, Err}
 use Rattle.ranges.specs.Numbers.{tab}
+use Rattle.ranges.specs.declared.refusal.Refusal.{Refusal}
 use Rattle.lists.specs.Rules.{Rules, listed, rules_in}
 use Rattle.tables.specs.Layout.{View}
 use Rattle.lookup.specs.Walk.{Walked}
 use Rattle.lookup.specs.Lookup.{skips, turn_of, better}
 use Rattle.lookup.specs.declared.lookup.Looked.{Looked}
-use Rattle.lookup.specs.declared.lookup.Looked.TheVariants.{Rule, Nothing, Refused}
 
 -- k is the largest whole number with 2^k ≤ m
 -- (of 1 it is 0, of 2 and 3 it is 1, of 1,024 it is 10)
@@ -45,10 +45,9 @@ sum_from zero q g = 0
 sum_from (suc k) q g = g q + sum_from k (suc q) g
 
 -- the answer is a refusal
-abbrev pub refuses : Looked → Bool
-refuses (Rule i t e) = false
-refuses (Nothing t) = false
-refuses (Refused x) = true
+abbrev pub refuses : Result Looked Refusal → Bool
+refuses (Ok x) = false
+refuses (Err x) = true
 
 -- m rules of d fields, with any flags: rule i is 2i to 2i + 1 in every field, so every low stands at an even place and every high at
 -- an odd one; of dates it holds 2i alone

@@ -1,6 +1,6 @@
 // The walk through one partition.
 ghost use Rattle.std.specs.Prelude.{◌≡◌, ℕ, ◌+◌, ◌-◌, ◌<◌, ◌≤◌, length, get_or};
-ghost use Rattle.lists.specs.Rules.{listed, range_at};
+ghost use Rattle.lists.specs.Rules.{lent, range_at};
 ghost use Rattle.lists.specs.Asked.{HasField};
 ghost use Rattle.tables.specs.Layout.{order_at, order_in, from_at, to_at, view};
 ghost use Rattle.lookup.specs.Lent.{Ready, Group, Going};
@@ -9,7 +9,7 @@ ghost use Rattle.lookup.specs.Packed.{packed, unpacked};
 
 use lists::range::field_range;
 use lists::scan::rule_fits;
-use lists::shape::{Shape, offset_of};
+use lists::shape::{RuleList, offset_of};
 use ranges::side::{Range, is_below, is_past};
 use tables::layout::{from_at, order_at, to_at};
 
@@ -58,12 +58,12 @@ fn to_in(table: &[u16], n: u16, d: u16, p: u16, f: u16) -> u16
 }
 
 // Gives the range of rule i in field f.
-fn range_at(shape: Shape, list: &[u32], i: u16, f: u16) -> Range
-    requires { HasField (listed shape list.now) i f }
-    ensures { result ≡ range_at (listed shape list.now) i f }
+fn range_at(list: &RuleList, i: u16, f: u16) -> Range
+    requires { HasField (lent list.now) i f }
+    ensures { result ≡ range_at (lent list.now) i f }
 {
-    let at = offset_of(shape.d as u16, i, f);
-    field_range(shape, f as u32, list[at], list[at + 1])
+    let at = offset_of(list.shape.d as u16, i, f);
+    field_range(list.shape, f as u32, list.numbers[at], list.numbers[at + 1])
 }
 
 // Says whether a run may be trusted: group start ≤ run-from ≤ mid < run-to ≤ group end.
@@ -85,20 +85,19 @@ fn run_stands(s: u16, e: u16, mid: u16, from: u16, to: u16) -> bool
 // Makes one test: the header's number in field f against the rule at the middle of places s to before e; gives the
 // group and the field that are left, or that the table is broken where the rule number is n or more or the run may not be trusted.
 fn one_step(
-    shape: Shape,
+    list: &RuleList,
     n: u16,
-    list: &[u32],
     table: &[u16],
     header: &[u32; 8],
     s: u16,
     e: u16,
     f: u16,
 ) -> Result<Step, Broken>
-    requires ready { Ready (listed shape list.now) n table.now }
-    requires group { Group n shape.d s e f }
-    ensures { result ≡ step_of (listed shape list.now) (view n shape.d table.now) header.now s e f }
+    requires ready { Ready (lent list.now) n table.now }
+    requires group { Group n list.now.shape.d s e f }
+    ensures { result ≡ step_of (lent list.now) (view n list.now.shape.d table.now) header.now s e f }
 {
-    let d = shape.d as u16;
+    let d = list.shape.d as u16;
     let mid = s + (e - s) / 2;
     let rule = rule_in(table, mid);
     if n <= rule {
@@ -109,7 +108,7 @@ fn one_step(
     if !run_stands(s, e, mid, from, to) {
         return Err(Broken);
     }
-    let range = range_at(shape, list, rule, f);
+    let range = range_at(list, rule, f);
     let x = header[f as usize];
     if is_below(range, x) {
         return Ok(Step { s, e: from, f });
@@ -127,24 +126,23 @@ fn one_step(
 // Ends a walk at field d on places s to before e: gives the rule of the one place that is left, held against the header in
 // all d fields once more; or a broken table.
 fn arrive(
-    shape: Shape,
+    list: &RuleList,
     n: u16,
-    list: &[u32],
     table: &[u16],
     header: &[u32; 8],
     s: u16,
     e: u16,
     tests: u16,
 ) -> Result<Ran, Broken>
-    requires ready { Ready (listed shape list.now) n table.now }
+    requires ready { Ready (lent list.now) n table.now }
     requires some_places { (s < e) × (e ≤ n) }
-    ensures { result ≡ arrived_of (listed shape list.now) (view n shape.d table.now) header.now s e tests }
+    ensures { result ≡ arrived_of (lent list.now) (view n list.now.shape.d table.now) header.now s e tests }
 {
     if e != s + 1 {
         return Err(Broken);
     }
     let rule = rule_in(table, s);
-    if !rule_fits(shape, list, rule, *header) {
+    if !rule_fits(list, rule, *header) {
         return Err(Broken);
     }
     Ok(Ran {
@@ -192,9 +190,8 @@ pub(crate) fn unpack(code: u32) -> Result<Ran, Broken>
 // Walks on from places s to before e at field f, with some tests made: gives what it finds and all tests made, or a broken
 // table, as one number. Calls itself on a smaller group or the next field; group size plus remaining fields falls at each call.
 pub(crate) fn walk(
-    shape: Shape,
+    list: &RuleList,
     n: u16,
-    list: &&[u32],
     table: &&[u16],
     header: &[u32; 8],
     s: u16,
@@ -202,23 +199,19 @@ pub(crate) fn walk(
     f: u16,
     tests: u16,
 ) -> u32
-    requires ready { Ready (listed shape list.now.now) n table.now.now }
-    requires going { Going n shape.d s e f tests }
-    ensures { (k : ℕ) → (e - s) + (shape.d - f) < k → result ≡ packed (walk_from (listed shape list.now.now) (view n shape.d table.now.now) header.now k s e f tests) }
+    requires ready { Ready (lent list.now) n table.now.now }
+    requires going { Going n list.now.shape.d s e f tests }
+    ensures { (k : ℕ) → (e - s) + (list.now.shape.d - f) < k → result ≡ packed (walk_from (lent list.now) (view n list.now.shape.d table.now.now) header.now k s e f tests) }
 {
-    // taken apart and made anew, so that a call is handed numbers and no local's place: so the recursion stays a loop
-    let d = shape.d;
-    let dates = shape.dates;
-    let shape = Shape { d, dates };
     if e <= s {
         return pack(Ok(Ran { found: None, tests }));
     }
-    if d <= f as usize {
-        return pack(arrive(shape, n, *list, *table, header, s, e, tests));
+    if list.shape.d <= f as usize {
+        return pack(arrive(list, n, *table, header, s, e, tests));
     }
-    let step = one_step(shape, n, *list, *table, header, s, e, f);
+    let step = one_step(list, n, *table, header, s, e, f);
     let Ok(Step { s, e, f }) = step else {
         return pack(Err(Broken));
     };
-    walk(shape, n, list, table, header, s, e, f, tests + 1)
+    walk(list, n, table, header, s, e, f, tests + 1)
 }

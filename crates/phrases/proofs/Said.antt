@@ -1,14 +1,15 @@
 -- Laws of answers as text (`specs/Said.antt`): numbers put one by one, each after a blank, as `put_all` puts those of a run and
 -- `put_table` those of a table.
---     first_more      where the first i are put, one more
+--     put_more      where the first i are put, one more
 -- Assumes nothing.
-use Prim.Native.Nat.{ℕ, ◌+◌, ◌*◌, ◌≤◌, ◌<◌}
+use Prim.Native.Nat.{ℕ, ◌+◌, ◌*◌, ◌<◌}
 use mathlib.Core.List.{List, [], ◌∷◌, ◌++◌, append_assoc, append-nil}
 use mathlib.Core.Path.{◌≡◌, refl, sym, ap, ◌∙◌}
 use native.Mathlib.Omega.{arith}
 use native.Mathlib.Numerals.{add-one}
 use lib.ListN.{length, get_or, take}
 use lib.Seq.{take-suc}
+use Rattle.text.specs.declared.put.Out.{Out}
 use Rattle.phrases.specs.Said.{spaced, all_spaced}
 use Rattle.phrases.specs.Few.{PutFew}
 use Rattle.phrases.proofs.Few.{few_then, few_more}
@@ -21,11 +22,7 @@ all_more : (xs : List ℕ) (i : ℕ) → i < length xs → all_spaced (take (i +
 all_more xs i lt =
     rw (add-one i, take-suc xs i 0) (all_append (take i xs) (get_or xs i 0 ∷ []) ∙ ap (λ l. all_spaced (take i xs) ++ l) (append-nil (spaced (get_or xs i 0))))
 
--- the first i numbers are put
-pub record PutFirst (ns : List ℕ) (i : ℕ) (out : List ℕ) (at : ℕ) (after : List ℕ) (next : ℕ) : Type 0 where
-  pub within : i ≤ length ns
-  pub put : PutFew (21 * i) out at (all_spaced (take i ns)) after next
-
-module _ {ns : List ℕ} {i : ℕ} {out : List ℕ} {at : ℕ} {after : List ℕ} {next : ℕ} (first : PutFirst ns i out at after next) where
-  pub first_more : i < length ns → {last : List ℕ} {end : ℕ} → PutFew 21 after next (spaced (get_or ns i 0)) last end → PutFirst ns (i + 1) out at last end
-  first_more lt more = record { within = omega arith; put = rw (all_more ns i lt) (few_more (omega arith) (few_then first.put more)) }
+-- where the first i numbers are put, one more
+pub put_more : (ns : List ℕ) (i : ℕ) {o p q : Out} → i < length ns → PutFew (21 * i) o (all_spaced (take i ns)) p → PutFew 21 p (spaced (get_or ns i 0)) q
+    → PutFew (21 * (i + 1)) o (all_spaced (take (i + 1) ns)) q
+put_more ns i lt first more = rw (all_more ns i lt) (few_more (omega arith) (few_then first more))

@@ -3,9 +3,9 @@
 ghost use Rattle.std.specs.Prelude.{◌+◌, ◌++◌, length};
 ghost use Rattle.text.specs.Texts.{bytes};
 ghost use Rattle.phrases.specs.Few.{PutFew, PutAll};
-ghost use Rattle.phrases.specs.Said.{spaced, refusal_said, count_said, bounds_said, match_said, pair_said, edge_said, found_said, spot_said, verdict_said, part_said};
+ghost use Rattle.phrases.specs.Said.{spaced, refusal_said, count_said, bounds_said, match_said, pair_said, edge_said, rule_said, found_said, spot_said, verdict_said, part_said};
 
-use lookup::lookup::{Looked, Match};
+use lookup::lookup::Looked;
 use ranges::prefix::Bounds;
 use ranges::refusal::Refusal;
 use ranges::spot::Spot;
@@ -123,22 +123,28 @@ fn put_edge(edge: bool, out: &mut Out)
     }
 }
 
-// Puts the first match, or none, the tests made, and whether the match is at an edge, or the refusal.
+// Puts the first match, or none, the tests made, and whether the match is at an edge.
+fn put_rule(looked: Looked, out: &mut Out)
+    ensures { PutFew 50 out.old (rule_said looked.found looked.tests) out.new }
+{
+    match looked.found {
+        Some(found) => {
+            put_two(b"ok", found.rule as u64, looked.tests as u64, out);
+            put_edge(found.edge, out);
+        }
+        None => {
+            put_one(b"ok none", looked.tests as u64, out);
+            put_edge(false, out);
+        }
+    }
+}
+
+// Puts the same, or the refusal.
 pub fn put_looked(looked: Result<Looked, Refusal>, out: &mut Out)
     ensures { PutFew 70 out.old (found_said looked) out.new }
 {
     match looked {
-        Ok(Looked {
-            found: Some(Match { rule, edge }),
-            tests,
-        }) => {
-            put_two(b"ok", rule as u64, tests as u64, out);
-            put_edge(edge, out);
-        }
-        Ok(Looked { found: None, tests }) => {
-            put_one(b"ok none", tests as u64, out);
-            put_edge(false, out);
-        }
+        Ok(looked) => put_rule(looked, out),
         Err(x) => put_refused(x, out),
     }
 }

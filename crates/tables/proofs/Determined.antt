@@ -55,28 +55,28 @@ from_at_one κs a x y e g p q = p ∙ sym q
 pub to_at_one : OneAnswer 0 to_at_kinds.ps to_at_kinds.r to_at_reads.Learnt
 to_at_one κs a x y e g p q = p ∙ sym q
 
-pub part_count_one : OneAnswer 1 part_count_kinds.ps part_count_kinds.r part_count_reads.Learnt
+pub part_count_one : OneAnswer 2 part_count_kinds.ps part_count_kinds.r part_count_reads.Learnt
 part_count_one κs a x y e g p q = p ∙ sym q
 
-pub rule_at_one : OneAnswer 1 rule_at_kinds.ps rule_at_kinds.r rule_at_reads.Learnt
+pub rule_at_one : OneAnswer 2 rule_at_kinds.ps rule_at_kinds.r rule_at_reads.Learnt
 rule_at_one κs a x y e g p q = p ∙ sym q
 
-pub start_of_one : OneAnswer 1 start_of_kinds.ps start_of_kinds.r start_of_reads.Learnt
+pub start_of_one : OneAnswer 2 start_of_kinds.ps start_of_kinds.r start_of_reads.Learnt
 start_of_one κs a x y e g p q = p ∙ sym q
 
-pub end_of_one : OneAnswer 1 end_of_kinds.ps end_of_kinds.r end_of_reads.Learnt
+pub end_of_one : OneAnswer 2 end_of_kinds.ps end_of_kinds.r end_of_reads.Learnt
 end_of_one κs a x y e g p q = p ∙ sym q
 
-pub least_of_one : OneAnswer 1 least_of_kinds.ps least_of_kinds.r least_of_reads.Learnt
+pub least_of_one : OneAnswer 2 least_of_kinds.ps least_of_kinds.r least_of_reads.Learnt
 least_of_one κs a x y e g p q = p ∙ sym q
 
-pub run_from_one : OneAnswer 1 run_from_kinds.ps run_from_kinds.r run_from_reads.Learnt
+pub run_from_one : OneAnswer 2 run_from_kinds.ps run_from_kinds.r run_from_reads.Learnt
 run_from_one κs a x y e g p q = p ∙ sym q
 
-pub run_to_one : OneAnswer 1 run_to_kinds.ps run_to_kinds.r run_to_reads.Learnt
+pub run_to_one : OneAnswer 2 run_to_kinds.ps run_to_kinds.r run_to_reads.Learnt
 run_to_one κs a x y e g p q = p ∙ sym q
 
-pub part_stands_one : OneAnswer 1 part_stands_kinds.ps part_stands_kinds.r part_stands_reads.Learnt
+pub part_stands_one : OneAnswer 2 part_stands_kinds.ps part_stands_kinds.r part_stands_reads.Learnt
 part_stands_one κs a x y e g p q = p ∙ sym q
 
 pub open_fault_one : OneAnswer 3 open_fault_kinds.ps open_fault_kinds.r open_fault_reads.Learnt

@@ -1,6 +1,7 @@
 -- 01, The working table, and 02, W5: where its parts stand, and the table read as a view. Nothing else knows an offset: each part begins where the one
 -- before it ends, and proofs use the laws of `proofs/Offsets.antt`. `room` is how many rules a part has room for, today n.
 -- Assumes nothing: these are definitions.
+use Rattle.tables.specs.declared.read.Table.{Table}
 use Rattle.std.specs.Prelude.{ℕ, ◌+◌, ◌*◌, List, ◌≡◌, length, get_or}
 use Rattle.lists.specs.Limits.{most_fields, most_rules}
 
@@ -92,3 +93,7 @@ view room d T =
       from = λ p f. get_or T (from_at room d p f) 0;
       to = λ p f. get_or T (to_at room d p f) 0;
     }
+
+-- what is seen of a table as it is lent
+abbrev pub seen : Table → View
+seen t = view t.room t.d t.numbers.now

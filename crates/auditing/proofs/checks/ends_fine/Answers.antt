@@ -10,4 +10,4 @@ use Rattle.auditing.proofs.checks.ends_fine.Goals as goal
 pub returns : goal.returns
 returns c =
     let a = c.args in
-    tested_all (end_fine (view a.n a.d a.table.now) a.s a.e) a.d _ _ _ c.all.ensures.ran (λ x b q k. search (rules, tests))
+    tested_all (end_fine (view a.table.now.room a.table.now.d a.table.now.numbers.now) a.s a.e) a.table.now.d _ _ _ c.all.ensures.ran (λ x b q k. search (rules, tests))

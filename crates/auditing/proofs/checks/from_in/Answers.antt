@@ -14,4 +14,4 @@ bounds-table-from_at c = cell_from c.requires c.from_at.ensures
 
 pub returns : goal.returns
 returns c =
-    ap (λ k. get_or c.args.table.now k 0) c.from_at.ensures
+    ap (λ k. get_or c.args.table.now.numbers.now k 0) c.from_at.ensures

@@ -5,4 +5,4 @@ use Rattle.auditing.proofs.Minimum.{Lowest}
 use Rattle.auditing.proofs.checks.least_rule.Given as goal
 
 abbrev pub invariant-loop-p : goal.invariant-loop-p
-invariant-loop-p l = Lowest l.n (order_in l.table) l.s l.e l.p l.least
+invariant-loop-p l = Lowest l.table.room (order_in l.table.numbers.now) l.s l.e l.p l.least

@@ -9,4 +9,4 @@ use Rattle.auditing.specs.Checks.{part_fine}
 use Rattle.auditing.proofs.checks.parts_fine.Given as goal
 
 abbrev pub invariant-loop-q : goal.invariant-loop-q
-invariant-loop-q l = Answered (part_fine (lent l.list) (view l.n l.d l.table)) true (get_or l.table b_at 0) l.q
+invariant-loop-q l = Answered (part_fine (lent l.list) (view l.table.room l.table.d l.table.numbers.now)) true (get_or l.table.numbers.now b_at 0) l.q

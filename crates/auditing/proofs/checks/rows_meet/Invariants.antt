@@ -7,4 +7,4 @@ use Rattle.auditing.specs.Checks.{meets}
 use Rattle.auditing.proofs.checks.rows_meet.Given as goal
 
 abbrev pub invariant-loop-f : goal.invariant-loop-f
-invariant-loop-f l = Answered (meets (view l.n l.d l.table) l.a l.p) true l.d l.f
+invariant-loop-f l = Answered (meets (view l.table.room l.table.d l.table.numbers.now) l.a l.p) true l.table.d l.f

@@ -5,4 +5,4 @@ use Rattle.auditing.proofs.Checking.{Marked}
 use Rattle.auditing.proofs.checks.rules_fine.Given as goal
 
 abbrev pub invariant-loop-p : goal.invariant-loop-p
-invariant-loop-p l = Marked l.n (order_in l.table) l.marks l.p
+invariant-loop-p l = Marked l.table.room (order_in l.table.numbers.now) l.marks l.p

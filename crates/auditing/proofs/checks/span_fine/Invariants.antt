@@ -9,4 +9,4 @@ use Rattle.auditing.specs.Checks.{next_fine}
 use Rattle.auditing.proofs.checks.span_fine.Given as goal
 
 abbrev pub invariant-loop-p : goal.invariant-loop-p
-invariant-loop-p l = (k : ℕ) → k < l.p → l.s ≤ k → next_fine (lent l.list) (view l.n l.d l.table) k ≡ true
+invariant-loop-p l = (k : ℕ) → k < l.p → l.s ≤ k → next_fine (lent l.list) (view l.table.room l.table.d l.table.numbers.now) k ≡ true

@@ -11,5 +11,5 @@ use Rattle.auditing.proofs.checks.starts_fine.Goals as goal
 pub returns : goal.returns
 returns c =
     let a = c.args in
-    let P = start_fine (get_or a.table.now b_at 0) (start_in a.n a.table.now) in
-    tested_all P a.n _ _ _ c.all.ensures.ran (λ x b q k. search (rules, tests))
+    let P = start_fine (get_or a.table.now.numbers.now b_at 0) (start_in a.table.now.room a.table.now.numbers.now) in
+    tested_all P a.table.now.room _ _ _ c.all.ensures.ran (λ x b q k. search (rules, tests))

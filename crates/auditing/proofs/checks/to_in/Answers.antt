@@ -14,4 +14,4 @@ bounds-table-to_at c = cell_to c.requires c.to_at.ensures
 
 pub returns : goal.returns
 returns c =
-    ap (λ k. get_or c.args.table.now k 0) c.to_at.ensures
+    ap (λ k. get_or c.args.table.now.numbers.now k 0) c.to_at.ensures

@@ -2,7 +2,7 @@
 -- Assumes nothing.
 use mathlib.Core.Path.{sym}
 use native.Mathlib.Omega.{arith}
-use Rattle.lists.specs.Rules.{listed}
+use Rattle.lists.specs.Rules.{lent}
 use Rattle.tables.specs.Layout.{view}
 use Rattle.lookup.proofs.Within.{few_rules, few_fields, start_read}
 use Rattle.lookup.proofs.Visits.{by-none, by_past, by_going, by_walk}
@@ -22,7 +22,7 @@ pub returns-then-e-s : goal.returns-then-e-s
 returns-then-e-s c =
     let a = c.args in
     sym
-    (by-none (listed a.shape a.list.now) (view a.n a.shape.d a.table.now) a.header.now a.n a.q c.requires.0.rules
+    (by-none (lent a.list.now) (view a.n a.list.now.shape.d a.table.now) a.header.now a.n a.q c.requires.0.rules
     c.start_in-s.ensures c.start_in-e.ensures c.if-e-s.true)
 
 -- an end past n
@@ -30,23 +30,23 @@ pub returns-then-n-e : goal.returns-then-n-e
 returns-then-n-e c =
     let a = c.args in
     sym
-    (by_past (listed a.shape a.list.now) (view a.n a.shape.d a.table.now) a.header.now a.n a.q c.requires.0.rules
+    (by_past (lent a.list.now) (view a.n a.list.now.shape.d a.table.now) a.header.now a.n a.q c.requires.0.rules
     c.start_in-s.ensures c.start_in-e.ensures c.if-e-s.false c.if-n-e.true)
 
 pub walk-requires : goal.walk-requires
 walk-requires c =
     let a = c.args in
-    let lent = c.requires.0 in record {
-      ready = lent;
-      going = by_going (listed a.shape a.list.now) (view a.n a.shape.d a.table.now) a.header.now a.n a.q lent.rules
-          c.start_in-s.ensures c.start_in-e.ensures c.if-e-s.false c.if-n-e.false (omega arith) (omega (arith, lent.rules, few_rules lent)) (few_fields lent);
+    let ready = c.requires.0 in record {
+      ready = ready;
+      going = by_going (lent a.list.now) (view a.n a.list.now.shape.d a.table.now) a.header.now a.n a.q ready.rules
+          c.start_in-s.ensures c.start_in-e.ensures c.if-e-s.false c.if-n-e.false (omega arith) (omega (arith, ready.rules, few_rules ready)) (few_fields ready);
     }
 
 -- the walk
 pub returns : goal.returns
 returns c =
     let a = c.args in
-    let lent = c.requires.0 in
-    by_walk (listed a.shape a.list.now) (view a.n a.shape.d a.table.now) a.header.now a.n a.q lent.rules
-    c.start_in-s.ensures c.start_in-e.ensures c.if-e-s.false c.if-n-e.false (few_rules lent) (few_fields lent) _
+    let ready = c.requires.0 in
+    by_walk (lent a.list.now) (view a.n a.list.now.shape.d a.table.now) a.header.now a.n a.q ready.rules
+    c.start_in-s.ensures c.start_in-e.ensures c.if-e-s.false c.if-n-e.false (few_rules ready) (few_fields ready) _
     c.walk.ensures _ c.unpack.ensures

@@ -1,10 +1,10 @@
 -- `lookup::lookup::visit_all` meets its contract. At the loop's head the partitions before q had their turn, and what is left decides
 -- the answer (`Turns.antt`: `Visited`), where n stands for no candidate. The total stays small: at most 18 tests a partition.
 -- Assumes nothing.
-use Rattle.lists.specs.Rules.{listed}
+use Rattle.lists.specs.Rules.{lent}
 use Rattle.tables.specs.Layout.{view}
 use Rattle.lookup.proofs.Turns.{Visited}
 use Rattle.lookup.proofs.lookup.visit_all.Given as goal
 
 abbrev pub invariant-loop-q : goal.invariant-loop-q
-invariant-loop-q l = Visited (listed l.shape l.list) (view l.n l.shape.d l.table) l.header l.n l.b l.q l.best l.total
+invariant-loop-q l = Visited (lent l.list) (view l.n l.list.shape.d l.table) l.header l.n l.b l.q l.best l.total

@@ -1,6 +1,6 @@
 -- The answer that the check does not find alone.
-use Rattle.phrases.proofs.Said.{first_more}
+use Rattle.phrases.proofs.Said.{put_more}
 use Rattle.phrases.proofs.say.put_all.Goals as goal
 
 pub loop-n-preserved : goal.loop-n-preserved
-loop-n-preserved c = first_more c.loop-n.invariant c.loop-n-test.true c.put_spaced-place.ensures
+loop-n-preserved c = put_more _ _ c.loop-n-test.true c.loop-n.invariant c.put_spaced.ensures

@@ -5,4 +5,4 @@ use Rattle.phrases.proofs.Few.{few_text, few_then}
 use Rattle.phrases.proofs.say.put_one.Goals as goal
 
 pub returns : goal.returns
-returns c = few_then (few_text _ (omega arith) c.put_text-next.ensures) c.put_spaced.ensures
+returns c = few_then (few_text _ (omega arith) c.text.ensures) c.put_spaced.ensures

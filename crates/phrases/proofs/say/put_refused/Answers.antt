@@ -5,4 +5,4 @@ use Rattle.phrases.proofs.Few.{few_then, few_more}
 use Rattle.phrases.proofs.say.put_refused.Goals as goal
 
 pub returns : goal.returns
-returns c = few_more (omega arith) (few_then c.put_two-next.ensures c.put_spaced.ensures)
+returns c = rw (← c.number.ensures) (few_more (omega arith) (few_then c.put_two.ensures c.put_spaced.ensures))

@@ -2,7 +2,7 @@
 -- Assumes nothing.
 use Prim.Native.Nat.{◌<◌, ◌^◌}
 use native.Mathlib.Omega.{arith}
-use Rattle.text.proofs.Puts.{put_then}
+use Rattle.text.proofs.Puts.{puts_then}
 use Rattle.phrases.proofs.Few.{spaced_few}
 use Rattle.phrases.proofs.say.put_spaced.Goals as goal
 
@@ -10,6 +10,6 @@ pub returns : goal.returns
 returns c =
     let small : c.args.n < 2 ^ 64 = omega (arith, c.well_formed.0) in
     record {
-      puts = put_then c.put_byte-next.ensures c.put_number.ensures;
+      puts = puts_then c.byte.ensures c.number.ensures;
       few = spaced_few c.args.n small;
     }

@@ -5,4 +5,4 @@ use Rattle.phrases.proofs.Few.{few_then, few_more}
 use Rattle.phrases.proofs.say.put_two.Goals as goal
 
 pub returns : goal.returns
-returns c = few_more (omega arith) (few_then c.put_one-next.ensures c.put_spaced.ensures)
+returns c = few_more (omega arith) (few_then c.put_one.ensures c.put_spaced.ensures)

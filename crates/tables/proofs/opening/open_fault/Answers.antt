@@ -8,6 +8,6 @@ use Rattle.tables.proofs.opening.open_fault.Goals as goal
 pub overflow_cast-d : goal.overflow_cast-d
 overflow_cast-d c = omega (arith, (shaped _ (sym c.in_ok-shape_fault.ensures)).few_fields)
 
-pub overflow_cast-n : goal.overflow_cast-n
-overflow_cast-n c =
-    omega (arith, c.rules_in-n.ensures, (shaped _ (sym c.in_ok-shape_fault.ensures)).few_rules)
+pub overflow_cast-room : goal.overflow_cast-room
+overflow_cast-room c =
+    omega (arith, c.rules_in-room.ensures, (shaped _ (sym c.in_ok-shape_fault.ensures)).few_rules)

@@ -10,9 +10,9 @@ use Rattle.tables.proofs.read.end_of.Goals as goal
 pub overflow_add-start_at : goal.overflow_add-start_at
 overflow_add-start_at c =
     let fit = c.ranges in
-    omega (arith, c.start_at.ensures, start_few fit.room.fits fit.q.fits)
+    omega (arith, c.start_at.ensures, start_few {room = c.args.table.now.room} (omega arith) fit.q.fits)
 
 pub returns : goal.returns
 returns c =
     let a = c.args in
-    read_at a.table.now c.number_at.ensures (ap (λ k. k + 1) c.start_at.ensures ∙ start_suc a.room a.q)
+    read_at a.table.now.numbers.now c.number_at.ensures (ap (λ k. k + 1) c.start_at.ensures ∙ start_suc a.table.now.room a.q)

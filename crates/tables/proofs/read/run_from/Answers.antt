@@ -4,4 +4,4 @@ use Rattle.tables.proofs.Readers.{read_at}
 use Rattle.tables.proofs.read.run_from.Goals as goal
 
 pub returns : goal.returns
-returns c = read_at c.args.table.now c.number_at.ensures c.from_at.ensures
+returns c = read_at c.args.table.now.numbers.now c.number_at.ensures c.from_at.ensures
