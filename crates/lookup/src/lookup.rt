@@ -13,7 +13,7 @@ use lists::shape::{RuleList, rules_in};
 use ranges::refusal::{Cause, Refusal, refuse};
 use tables::layout::{least_at, start_at};
 use tables::opening::open_fault;
-use tables::read::part_count;
+use tables::read::{Table, part_count};
 
 // The first match: its rule number, and whether it has a field at an end of its range.
 #[derive(Clone, Copy)]
@@ -137,6 +137,11 @@ pub fn lookup(list: &RuleList, table: &[u16], header: [u32; 8]) -> Result<Looked
 {
     open_fault(list, table)?;
     let n = rules_in(list) as u16;
-    let b = part_count(table);
+    let d = list.shape.d as u16;
+    let b = part_count(&Table {
+        room: n,
+        d,
+        numbers: table,
+    });
     visit_all(list, n, b, table, &header)
 }
