@@ -1,8 +1,6 @@
--- Telling: an answer laid out as numbers.
 -- Back: an answer read back from its numbers.
 -- Theorems: what the library answers is read back from its numbers.
 -- Determined: any two results that a contract allows are equal.
-mod Telling
 mod Back
 mod Theorems
 mod Determined

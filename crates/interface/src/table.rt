@@ -9,8 +9,8 @@ ghost use Rattle.lookup.specs.Lookup.{lookup_of};
 ghost use Rattle.interface.specs.Answers.{Told, rules_of, says_in_place};
 
 use crate::answer::{put_count, put_looked, put_part, put_verdict};
+use crate::list::rules_of;
 use auditing::audit::audit;
-use lists::shape::Shape;
 use lookup::lookup::lookup;
 use sorting::build::build;
 use sorting::choose::choose;
@@ -30,7 +30,7 @@ pub extern "C" fn cuy_choose(
     ensures told { Told 1 (says_count (choose_of (rules_of d dates list.now) run.old)) result answer.new }
     ensures run_after { run.new ≡ run_after (rules_of d dates list.now) run.old }
 {
-    put_count(choose(Shape { d, dates }, list, run), answer)
+    put_count(choose(&rules_of(d, dates, list), run), answer)
 }
 
 // Lays a table out by a choice of partitions: writes every number of it and answers b, the number of partitions. A refusal
@@ -47,7 +47,7 @@ pub extern "C" fn cuy_lay_out(
     ensures told { Told 1 (says_count (lay_out_of (rules_of d dates list.now) run.now table.old)) result answer.new }
     ensures table_after { table.new ≡ laid_after (rules_of d dates list.now) run.now table.old }
 {
-    put_count(lay_out(Shape { d, dates }, list, run, table), answer)
+    put_count(lay_out(&rules_of(d, dates, list), run, table), answer)
 }
 
 // Builds the table of a list, which is the two in turn: writes every number of it and answers b, the number of partitions. A refusal leaves the
@@ -63,7 +63,7 @@ pub extern "C" fn cuy_build(
     ensures told { Told 1 (says_count (build_of (rules_of d dates list.now) table.old)) result answer.new }
     ensures table_after { table.new ≡ table_after (rules_of d dates list.now) table.old }
 {
-    put_count(build(Shape { d, dates }, list, table), answer)
+    put_count(build(&rules_of(d, dates, list), table), answer)
 }
 
 // Looks a header up in a table: answers 1 and the first match, or 0 and 0 where no rule fits, the number of tests, and 1
@@ -79,7 +79,7 @@ pub extern "C" fn cuy_lookup(
 ) -> u32
     ensures { Told 4 (says_in_place (lookup_of (rules_of d dates list.now) table.now header.now)) result answer.new }
 {
-    put_looked(lookup(Shape { d, dates }, list, table, *header), answer)
+    put_looked(lookup(&rules_of(d, dates, list), table, *header), answer)
 }
 
 // Audits a table: answers 1 where some run of partition numbers makes cuy_lay_out write this table for this list, else 0.
@@ -93,7 +93,7 @@ pub extern "C" fn cuy_audit(
 ) -> u32
     ensures { Told 1 (says_verdict (audit_of (rules_of d dates list.now) table.now)) result answer.new }
 {
-    put_verdict(audit(Shape { d, dates }, list, table), answer)
+    put_verdict(audit(&rules_of(d, dates, list), table), answer)
 }
 
 // Reports on a partition of a table: answers its size and its smallest rule number, as the table stores it.
@@ -108,5 +108,5 @@ pub extern "C" fn cuy_report(
 ) -> u32
     ensures { Told 2 (says_part (report_of (rules_of d dates list.now) table.now partition)) result answer.new }
 {
-    put_part(report(Shape { d, dates }, list, table, partition), answer)
+    put_part(report(&rules_of(d, dates, list), table, partition), answer)
 }

@@ -1,7 +1,0 @@
--- `interface::table::cuy_build` meets its contract: what is told of the library's answer is told of what the library's contract says, and so of the table.
--- Assumes nothing.
-use Rattle.interface.proofs.table.cuy_build.Goals as goal
-
-pub returns : goal.returns
-returns c =
-    record { told = rw c.build.ensures.answers at c.put_count.ensures; table_after = c.build.ensures.leaves }
