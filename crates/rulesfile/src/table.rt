@@ -42,6 +42,7 @@ fn number_at(list: &[u32], at: usize) -> u32
 }
 
 // Gives the flaw of a rule whose low is above its high, in a field.
+#[tactic(auto, unfolding(lists::specs::Rules::low_of, lists::specs::Rules::high_of, lists::specs::Rules::offset_of))]
 fn void_flaw(shape: Shape, list: &[u32], x: Refusal) -> Flaw
     requires d_bound { shape.d < 65536 }
     requires place_fits { (x.at < 65536) × (x.then < 65536) }
@@ -73,6 +74,7 @@ fn build_list(shape: Shape, list: &[u32], table: &mut [u16]) -> Result<(), Flaw>
 
 // Builds the table of the rules once their file has ended, at the front of a run; or finds the first flaw of their lines;
 // or that there is no line; or low > high, where the build refuses the list. Where there is a flaw the run stays as lent.
+#[tactic(auto, unfolding(crate::specs::Tabled::tabled_flaw, crate::specs::Tabled::tabled_after))]
 pub fn rules_table(rules: RulesSoFar, list: &[u32], table: &mut [u16]) -> Result<(), Flaw>
     ensures { Tabled rules list.now table.old result table.new }
 {

@@ -1,11 +1,13 @@
 -- The answers that the check does not find alone.
 use Prim.Native.Nat.{◌-◌, ◌<◌}
+use mathlib.Core.Path.{ap, ◌∙◌}
 use native.Mathlib.Omega.{arith}
 use borrow.Author.Rules.{rules}
-use mathlib.Core.Path.{sym, ap, ◌∙◌}
-use lib.ListN.{length, length-drop, take, drop}
-use Rattle.text.proofs.Feeding.{rest_is}
-use Rattle.text.proofs.Files.{line_some, line_most_lem}
+use lib.ListN.{length, take, drop}
+use Rattle.text.specs.Cells.{fed}
+use Rattle.text.proofs.Feeding.{fed_rest}
+use Rattle.text.proofs.Files.{line_most_lem, line_rest}
+use Rattle.rulesfile.specs.Bytes.{rules_in_file, rules_step}
 use Rattle.rulesfile.proofs.file.rules_piece.Goals as goal
 
 pub slice_bounds-rest-count : goal.slice_bounds-rest-count
@@ -16,7 +18,15 @@ slice_bounds-rest-start c = let g = line_most_lem c.loop-rest.present.reader.cr 
 
 pub loop-rest-smaller : goal.loop-rest-smaller
 loop-rest-smaller c =
-    let r = c.loop-rest.rest.now in
-    let u = c.rules_line-next.result.used in
-    let some : 0 < length r = ? in
-    omega (arith, ap length (rest_is r u), length-drop u r, line_some c.loop-rest.present.reader.cr r some, c.rules_line-next.ensures.used)
+    let some : 0 < length c.loop-rest.rest.now = grind arith in
+    line_rest c.loop-rest.present.reader.cr c.loop-rest.rest.now some c.rules_line-next.ensures.used
+
+pub loop-rest-preserved : goal.loop-rest-preserved
+loop-rest-preserved c =
+    let l = c.loop-rest in
+    let u = c.rules_line-next.result.used in (
+      c.rules_line-next.auto.list ∙ l.invariant.0,
+      ap (λ s. fed rules_step s (take (length l.rest.now - u) (drop u l.rest.now))) c.rules_line-next.ensures.file
+          ∙ fed_rest rules_step (rules_in_file l.present l.list) l.rest.now u
+          ∙ l.invariant.1,
+    )
