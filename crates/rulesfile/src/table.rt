@@ -1,12 +1,13 @@
 // What becomes of the rules once their file has ended: their list's table, or a flaw.
 ghost use Rattle.std.specs.Prelude.{◌≡◌, ◌/◌, ◌<◌, min, get_or};
+ghost use Rattle.std.specs.Result.{result_err};
 ghost use Rattle.lists.specs.Rules.{listed, shape_of};
 ghost use Rattle.sorting.specs.Build.{build_of, table_after};
 ghost use Rattle.rulesfile.specs.Flaws.{flaw_at};
 ghost use Rattle.rulesfile.specs.Tabled.{length_read, room_read, built_flaw, Tabled};
 
 use crate::file::RulesSoFar;
-use flaws::flaw::{Flaw, flaw_number};
+use flaws::flaw::Flaw;
 use lists::shape::{Shape, offset_of, shape_of};
 use ranges::refusal::{Count, Refusal};
 use sorting::build::build;
@@ -19,41 +20,29 @@ pub fn rules_shape(rules: RulesSoFar) -> Shape
     shape_of(rules.width as usize / 2)
 }
 
-// Gives the smaller of two lengths.
-fn smaller(a: usize, b: usize) -> usize
-    ensures { result ≡ min a b }
-{
-    if a < b {
-        return a;
-    }
-    b
-}
-
 // Says how many numbers of the list the lines have brought, no more than it has.
 pub fn rules_length(rules: RulesSoFar, list: &[u32]) -> usize
     ensures { result ≡ length_read rules list.now }
 {
-    smaller(rules.lines as usize * rules.width as usize, list.len())
+    (rules.lines as usize * rules.width as usize).min(list.len())
 }
 
 // Says how many numbers of a run the rules' table takes, no more than it has.
 pub fn rules_room(rules: RulesSoFar, table: &[u16]) -> usize
     ensures { result ≡ room_read rules table.now }
 {
-    smaller(table_length(rules.lines, rules.width / 2), table.len())
+    table_length(rules.lines, rules.width / 2).min(table.len())
 }
 
 // Gives the number at a place of a list, and 0 past its end.
 fn number_at(list: &[u32], at: usize) -> u32
     ensures { result ≡ get_or list.now at 0 }
 {
-    if at < list.len() {
-        return list[at];
-    }
-    0
+    list.get(at).copied().unwrap_or(0)
 }
 
 // Gives the flaw of a rule whose low is above its high, in a field.
+#[tactic(auto, unfolding(lists::specs::Rules::low_of, lists::specs::Rules::high_of, lists::specs::Rules::offset_of))]
 fn void_flaw(shape: Shape, list: &[u32], x: Refusal) -> Flaw
     requires d_bound { shape.d < 65536 }
     requires place_fits { (x.at < 65536) × (x.then < 65536) }
@@ -70,31 +59,30 @@ fn void_flaw(shape: Shape, list: &[u32], x: Refusal) -> Flaw
     }
 }
 
-// Builds the table of a list, and gives the flaw that the build has found: low > high, the only one that a list of lines
-// without flaw can have, where there is room for its table. Any other refusal is given as that flaw too.
-fn build_list(shape: Shape, list: &[u32], table: &mut [u16]) -> Flaw
+// Builds the table of a list, or finds its flaw: low > high, the only one that a list of lines without flaw can have,
+// where there is room for its table. Any other refusal is given as that flaw too.
+fn build_list(shape: Shape, list: &[u32], table: &mut [u16]) -> Result<(), Flaw>
     requires { shape.d < 65536 }
-    ensures { (result ≡ built_flaw (listed shape list.now) (build_of (listed shape list.now) table.old))
+    ensures { (result_err result ≡ built_flaw (listed shape list.now) (build_of (listed shape list.now) table.old))
         × (table.new ≡ table_after (listed shape list.now) table.old) }
 {
-    let built = build(shape, list, table);
-    match built {
-        Count::Is(b) => Flaw::Nothing,
-        Count::Refused(x) => void_flaw(shape, list, x),
+    match build(shape, list, table) {
+        Count::Is(_) => Ok(()),
+        Count::Refused(x) => Err(void_flaw(shape, list, x)),
     }
 }
 
-// Builds the table of the rules once their file has ended, at the front of a run: gives the first flaw of their lines;
+// Builds the table of the rules once their file has ended, at the front of a run; or finds the first flaw of their lines;
 // or that there is no line; or low > high, where the build refuses the list. Where there is a flaw the run stays as lent.
-pub fn rules_table(rules: RulesSoFar, list: &[u32], table: &mut [u16]) -> Flaw
+#[tactic(auto, unfolding(crate::specs::Tabled::tabled_flaw, crate::specs::Tabled::tabled_after))]
+pub fn rules_table(rules: RulesSoFar, list: &[u32], table: &mut [u16]) -> Result<(), Flaw>
     ensures { Tabled rules list.now table.old result table.new }
 {
-    let flaw = rules.flaw;
-    if flaw_number(flaw) != 0 {
-        return flaw;
+    if let Some(flaw) = rules.flaw {
+        return Err(flaw);
     }
     if rules.lines == 0 {
-        return Flaw::NoLine;
+        return Err(Flaw::NoLine);
     }
     let k = rules_length(rules, list);
     let t = rules_room(rules, table);
