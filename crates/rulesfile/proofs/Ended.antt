@@ -14,6 +14,7 @@ use lib.Dec.{eqb}
 use Rattle.std.specs.Prelude.{Option, None, Some}
 use Rattle.std.proofs.lemmas.Option.{none-some}
 use Rattle.ranges.specs.Numbers.{pick}
+use Rattle.ranges.specs.Refusals.{none}
 use Rattle.lists.specs.Rules.{shape_of, listed, fields_of, rules_in}
 use Rattle.lists.specs.Faults.{list_fault}
 use Rattle.tables.specs.Layout.{table_length, most_table}
@@ -23,15 +24,14 @@ use Rattle.sorting.specs.Build.{Buildable, build_of, table_after}
 use Rattle.sorting.proofs.Theorems.{built_table_lem}
 use Rattle.text.specs.Judging.{Judged}
 use Rattle.rulesfile.specs.Faults.{rules_from}
-use Rattle.rulesfile.specs.Flaws.{first_flaw, reading_flaw, list_flaw, file_flaw}
-use Rattle.flaws.specs.Numbered.{number_of_flaw}
-use Rattle.rulesfile.specs.Tabled.{list_read, room_read, built_flaw, tabled_flaw, tabled_after}
+use Rattle.rulesfile.specs.Flaws.{first_flaw, reading_flaw, refused_flaw, list_flaw, file_flaw}
+use Rattle.rulesfile.specs.Tabled.{list_read, room_read, tabled_flaw, tabled_after}
 use Rattle.flaws.specs.declared.flaw.Flaw.{Flaw}
 use Rattle.flaws.specs.declared.flaw.Flaw.TheVariants.{NoLine}
 use Rattle.rulesfile.specs.declared.file.RulesSoFar.{RulesSoFar}
 use Rattle.rulesfile.proofs.Flaws.{first_fine}
 use Rattle.rulesfile.proofs.Come.{end_flaw, Come, Stood, own_fine}
-use Rattle.rulesfile.proofs.Listing.{stood_list, stood_rules, stood_shaped, list_number}
+use Rattle.rulesfile.proofs.Listing.{stood_list, stood_rules, refused_none}
 use Rattle.rulesfile.proofs.Tabling.{built_list, flaw_built, after_built, after_long}
 
 -- ls are the file's lines, y is what was read of them, and `table` is the run for the table: the flaw is the file's; where there is none the
@@ -72,12 +72,12 @@ module _ (ls : List (List ℕ)) (y : Judged RulesSoFar) (table : List ℕ) (room
     some_lines none = let some = s.some in omega arith
 
     flaw_stood : tabled_flaw y.own y.run table ≡ list_flaw (rules_from ls)
-    flaw_stood = flaw_built y.own y.run table fine some_lines ∙ ap (λ R. built_flaw R (build_of R front)) list_is ∙ built_list (rules_from ls) front front_long
+    flaw_stood = flaw_built y.own y.run table fine some_lines ∙ ap (λ R. refused_flaw R (build_of R front)) list_is ∙ built_list (rules_from ls) front front_long
 
-    table_stood : (list_fault (rules_from ls)).number ≡ 0 → take (room_read y.own table) (tabled_after y.own y.run table) ≡ built_table (rules_from ls)
-    table_stood none =
+    table_stood : list_fault (rules_from ls) ≡ none → take (room_read y.own table) (tabled_after y.own y.run table) ≡ built_table (rules_from ls)
+    table_stood sound =
         let R = rules_from ls in
-        let asked : Buildable R front = record { no_fault = none; sized = record { long = front_long } } in
+        let asked : Buildable R front = record { no_fault = sound; sized = record { long = front_long } } in
         let after : table_after (list_read y.own y.run) front ≡ built_table R = ap (λ Q. table_after Q front) list_is ∙ built_table_lem R front asked in
         let written : length (table_after (list_read y.own y.run) front) ≡ room_read y.own table
         = after_long (list_read y.own y.run) front ∙ length-take-le (room_read y.own table) table room_within in
@@ -89,7 +89,7 @@ module _ (ls : List (List ℕ)) (y : Judged RulesSoFar) (table : List ℕ) (room
 -- it is the first that was read; or there is no line
 flaw_read : (r : RulesSoFar) (list table : List ℕ) (f : Flaw) → first_flaw r.flaw (end_flaw r) ≡ Some f → tabled_flaw r list table ≡ Some f
 unfolding tabled_flaw
-flaw_read r list table f is = go r.flaw (eqb r.lines 0) (built_flaw (list_read r list) (build_of (list_read r list) (take (room_read r table) table))) is
+flaw_read r list table f is = go r.flaw (eqb r.lines 0) (refused_flaw (list_read r list) (build_of (list_read r list) (take (room_read r table) table))) is
   where
     go : (g : Option Flaw) (t : Bool) (h : Option Flaw) → first_flaw g (pick t (Some NoLine) None) ≡ Some f → first_flaw g (pick t (Some NoLine) h) ≡ Some f
     go (Some g) t h e = e
@@ -113,7 +113,7 @@ module _ (ls : List (List ℕ)) (y : Judged RulesSoFar) (table : List ℕ) (at :
       let fine = reading-fine none in
       let s = at.stood fine in
       let last : list_flaw (rules_from ls) ≡ None = rw fine at none in
-      let checked : (list_fault (rules_from ls)).number ≡ 0 = sym (list_number (rules_from ls) (stood_shaped ls y s)) ∙ ap number_of_flaw last in
+      let checked = refused_none (rules_from ls) (list_fault (rules_from ls)) last in
       table_stood ls y table room s (own_fine at fine) checked
 
   pub tabled : TableStands ls y table

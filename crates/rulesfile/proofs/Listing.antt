@@ -2,7 +2,7 @@
 -- nothing, and a file's flaw has the number that 01 refuses the file by.
 --     stood_list, stood_length, stood_rules, stood_shaped      the list as it was read
 --     reading_shaped                                           the same of the lines alone
---     list_number                                              what the check of a list finds
+--     list_number, refused_none                                what the check of a list finds
 --     flaw_number_is                                           a whole file
 -- Assumes nothing.
 use Prim.Native.Nat.{ℕ, ◌*◌, ◌/◌, ◌<◌}
@@ -15,10 +15,10 @@ use borrow.Author.Tests.{eqb-true}
 use lib.Dec.{ltb, eqb}
 use lib.ListN.{length, take}
 use lib.Seq.{length-take-le}
-use Rattle.std.specs.Prelude.{None, Some}
+use Rattle.std.specs.Prelude.{None, Ok, Err}
 use Rattle.ranges.specs.Numbers.{pick, tab, least}
-use Rattle.ranges.specs.Refusals.{none, refused_at, LowAboveHigh}
-use Rattle.ranges.specs.declared.refusal.Refusal.{Refusal}
+use Rattle.ranges.specs.Refusals.{Fault, none, refused_at, number_in}
+use Rattle.ranges.specs.declared.refusal.Cause.TheVariants.{LowAboveHigh}
 use Rattle.ranges.proofs.Numbers.{tab-length}
 use Rattle.lists.specs.Limits.{most_numbers}
 use Rattle.lists.specs.Rules.{Rules, shape_of, listed, fields_of, rules_in, is_void, Shaped}
@@ -26,7 +26,7 @@ use Rattle.lists.specs.Faults.{bad_rule, ends_fault, list_fault}
 use Rattle.lists.proofs.Sound.{shaped_none}
 use Rattle.text.specs.Judging.{Judged, judged_lines}
 use Rattle.rulesfile.specs.Faults.{first_fault, width_of, list_of, rules_from, reading_fault, rules_fault}
-use Rattle.rulesfile.specs.Flaws.{reading_flaw, flaw_at, list_flaw, file_flaw}
+use Rattle.rulesfile.specs.Flaws.{reading_flaw, refused_flaw, list_flaw, file_flaw}
 use Rattle.flaws.specs.Numbered.{number_of_flaw}
 use Rattle.rulesfile.specs.Bytes.{rules_so_far, line_at, judge_rules}
 use Rattle.rulesfile.specs.declared.file.RulesSoFar.{RulesSoFar}
@@ -77,17 +77,22 @@ reading_shaped ls none =
 
 -- ---- what its check finds
 -- 4 or nothing
-ends_number : (R : Rules) (x : Refusal) → x ≡ ends_fault R → number_of_flaw (pick (eqb x.number 0) None (Some (flaw_at R x))) ≡ x.number
+ends_number : (R : Rules) → number_of_flaw (refused_flaw R (ends_fault R)) ≡ number_in (ends_fault R)
 unfolding ends_fault
-ends_number R x is = rw is (go (ltb (bad_rule R) (rules_in R)))
+ends_number R = go (ltb (bad_rule R) (rules_in R))
   where
-    go : (t : Bool) → let y : Refusal = pick t (refused_at LowAboveHigh (bad_rule R) (least (fields_of R) (is_void R (bad_rule R)))) none in
-        number_of_flaw (pick (eqb y.number 0) None (Some (flaw_at R y))) ≡ y.number
+    go : (t : Bool) → let y : Fault = pick t (refused_at LowAboveHigh (bad_rule R) (least (fields_of R) (is_void R (bad_rule R)))) none in
+        number_of_flaw (refused_flaw R y) ≡ number_in y
     go true = refl
     go false = refl
 
-pub list_number : (R : Rules) → Shaped R → number_of_flaw (list_flaw R) ≡ (list_fault R).number
-list_number R shaped = ends_number R (list_fault R) (rw (shaped_none R shaped))
+pub list_number : (R : Rules) → Shaped R → number_of_flaw (list_flaw R) ≡ number_in (list_fault R)
+list_number R shaped = rw (shaped_none R shaped) (ends_number R)
+
+-- where that is no flaw, nothing is refused
+pub refused_none : (R : Rules) (f : Fault) → refused_flaw R f ≡ None → f ≡ none
+refused_none R (Ok u) e = refl
+refused_none R (Err x) e = absurd (cc)
 
 -- ---- a whole file
 pub flaw_number_is : (ls : List (List ℕ)) → number_of_flaw (file_flaw ls) ≡ rules_fault ls
@@ -97,7 +102,7 @@ flaw_number_is ls =
     ∙ go (eqb (reading_fault ls) 0) refl
   where
     go : (t : Bool) → eqb (reading_fault ls) 0 ≡ t
-        → first_fault (reading_fault ls) (number_of_flaw (list_flaw (rules_from ls))) ≡ first_fault (reading_fault ls) (list_fault (rules_from ls)).number
+        → first_fault (reading_fault ls) (number_of_flaw (list_flaw (rules_from ls))) ≡ first_fault (reading_fault ls) (number_in (list_fault (rules_from ls)))
     go true e =
         let fine = number_none (reading_flaw ls) (reading_number ls ∙ eqb-true (reading_fault ls) 0 e) in
         ap (first_fault (reading_fault ls)) (list_number (rules_from ls) (reading_shaped ls fine))

@@ -2,7 +2,7 @@
 -- for. Lines and cells count from 1, rules and fields from 0. Cells are counted as the reader does (`counted_to`).
 -- That a flaw's number is the fault's is `flaw_number_is` of `proofs/Theorems.antt`.
 -- Assumes nothing: these are definitions.
-use Rattle.std.specs.Prelude.{ℕ, ◌+◌, ◌%◌, Bool, List, [], ◌∷◌, ltb, leb, eqb, Option, None, Some}
+use Rattle.std.specs.Prelude.{ℕ, ◌+◌, ◌%◌, Bool, List, [], ◌∷◌, ltb, leb, eqb, Option, None, Some, Result, Ok, Err}
 use Rattle.std.specs.Option.{option_or}
 use Rattle.ranges.specs.Numbers.{pick}
 use Rattle.ranges.specs.declared.refusal.Refusal.{Refusal}
@@ -56,8 +56,13 @@ reading_flaw (l ∷ ls) = lines_flaw 0 (count_in l) (l ∷ ls)
 abbrev pub flaw_at : Rules → Refusal → Flaw
 flaw_at R x = LowAboveHigh x.at x.then (low_of R x.at x.then) (high_of R x.at x.then)
 
+-- whatever refuses a list is given as that flaw
+abbrev pub refused_flaw : {A : Type 0} → Rules → Result A Refusal → Option Flaw
+refused_flaw R (Ok a) = None
+refused_flaw R (Err x) = Some (flaw_at R x)
+
 abbrev pub list_flaw : Rules → Option Flaw
-list_flaw R = pick (eqb (list_fault R).number 0) None (Some (flaw_at R (list_fault R)))
+list_flaw R = refused_flaw R (list_fault R)
 
 -- a whole rules file
 abbrev pub file_flaw : List (List ℕ) → Option Flaw

@@ -2,15 +2,13 @@
 -- For a list and a run for the table that are long enough this is the list of the file's lines and the table of the build;
 -- that is `tabled_is` of `proofs/Theorems.antt`.
 -- Assumes nothing: these are definitions.
-use Rattle.std.specs.Prelude.{ℕ, ◌*◌, ◌/◌, min, List, ◌++◌, ◌≡◌, length, take, drop, eqb, ⊤, Option, None, Some, is_none, Result}
+use Rattle.std.specs.Prelude.{ℕ, ◌*◌, ◌/◌, min, List, ◌++◌, ◌≡◌, length, take, drop, eqb, ⊤, Option, Some, is_none, Result}
 use Rattle.std.specs.Result.{result_err}
 use Rattle.ranges.specs.Numbers.{pick}
-use Rattle.ranges.specs.declared.refusal.Count.{Count}
-use Rattle.ranges.specs.declared.refusal.Count.TheVariants.{Is, Refused}
 use Rattle.lists.specs.Rules.{Rules, shape_of, listed}
 use Rattle.tables.specs.Layout.{table_length}
 use Rattle.sorting.specs.Build.{build_of, table_after}
-use Rattle.rulesfile.specs.Flaws.{first_flaw, flaw_at}
+use Rattle.rulesfile.specs.Flaws.{first_flaw, refused_flaw}
 use Rattle.flaws.specs.declared.flaw.Flaw.{Flaw}
 use Rattle.flaws.specs.declared.flaw.Flaw.TheVariants.{NoLine}
 use Rattle.rulesfile.specs.declared.file.RulesSoFar.{RulesSoFar}
@@ -27,16 +25,11 @@ list_read r list = listed (shape_of (r.width / 2)) (take (length_read r list) li
 abbrev pub room_read : RulesSoFar → List ℕ → ℕ
 room_read r table = min (table_length r.lines (r.width / 2)) (length table)
 
--- what the build of a list finds
-abbrev pub built_flaw : Rules → Count → Option Flaw
-built_flaw R (Is b) = None
-built_flaw R (Refused x) = Some (flaw_at R x)
-
 -- the flaw of the rules
 unfoldable pub tabled_flaw : RulesSoFar → List ℕ → List ℕ → Option Flaw
 tabled_flaw r list table =
     first_flaw r.flaw
-    (pick (eqb r.lines 0) (Some NoLine) (built_flaw (list_read r list) (build_of (list_read r list) (take (room_read r table) table))))
+    (pick (eqb r.lines 0) (Some NoLine) (refused_flaw (list_read r list) (build_of (list_read r list) (take (room_read r table) table))))
 
 -- and the run for the table afterwards
 unfoldable pub tabled_after : RulesSoFar → List ℕ → List ℕ → List ℕ

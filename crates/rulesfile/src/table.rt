@@ -1,15 +1,15 @@
 // What becomes of the rules once their file has ended: their list's table, or a flaw.
 ghost use Rattle.std.specs.Prelude.{◌≡◌, ◌/◌, ◌<◌, min, get_or};
 ghost use Rattle.std.specs.Result.{result_err};
-ghost use Rattle.lists.specs.Rules.{listed, shape_of};
+ghost use Rattle.lists.specs.Rules.{lent, shape_of};
 ghost use Rattle.sorting.specs.Build.{build_of, table_after};
-ghost use Rattle.rulesfile.specs.Flaws.{flaw_at};
-ghost use Rattle.rulesfile.specs.Tabled.{length_read, room_read, built_flaw, Tabled};
+ghost use Rattle.rulesfile.specs.Flaws.{flaw_at, refused_flaw};
+ghost use Rattle.rulesfile.specs.Tabled.{length_read, room_read, Tabled};
 
 use crate::file::RulesSoFar;
 use flaws::flaw::Flaw;
-use lists::shape::{Shape, offset_of, shape_of};
-use ranges::refusal::{Count, Refusal};
+use lists::shape::{RuleList, Shape, offset_of, shape_of};
+use ranges::refusal::Refusal;
 use sorting::build::build;
 use tables::layout::table_length;
 
@@ -43,32 +43,32 @@ fn number_at(list: &[u32], at: usize) -> u32
 
 // Gives the flaw of a rule whose low is above its high, in a field.
 #[tactic(auto, unfolding(lists::specs::Rules::low_of, lists::specs::Rules::high_of, lists::specs::Rules::offset_of))]
-fn void_flaw(shape: Shape, list: &[u32], x: Refusal) -> Flaw
-    requires d_bound { shape.d < 65536 }
+fn void_flaw(list: &RuleList, x: Refusal) -> Flaw
+    requires d_bound { list.now.shape.d < 65536 }
     requires place_fits { (x.at < 65536) × (x.then < 65536) }
-    ensures { result ≡ flaw_at (listed shape list.now) x }
+    ensures { result ≡ flaw_at (lent list.now) x }
 {
     let rule = x.at as u16;
     let field = x.then as u16;
-    let at = offset_of(shape.d as u16, rule, field);
+    let at = offset_of(list.shape.d as u16, rule, field);
     Flaw::LowAboveHigh {
         rule,
         field,
-        low: number_at(list, at),
-        high: number_at(list, at + 1),
+        low: number_at(list.numbers, at),
+        high: number_at(list.numbers, at + 1),
     }
 }
 
 // Builds the table of a list, or finds its flaw: low > high, the only one that a list of lines without flaw can have,
 // where there is room for its table. Any other refusal is given as that flaw too.
-fn build_list(shape: Shape, list: &[u32], table: &mut [u16]) -> Result<(), Flaw>
-    requires { shape.d < 65536 }
-    ensures { (result_err result ≡ built_flaw (listed shape list.now) (build_of (listed shape list.now) table.old))
-        × (table.new ≡ table_after (listed shape list.now) table.old) }
+fn build_list(list: &RuleList, table: &mut [u16]) -> Result<(), Flaw>
+    requires { list.now.shape.d < 65536 }
+    ensures { (result_err result ≡ refused_flaw (lent list.now) (build_of (lent list.now) table.old))
+        × (table.new ≡ table_after (lent list.now) table.old) }
 {
-    match build(shape, list, table) {
-        Count::Is(_) => Ok(()),
-        Count::Refused(x) => Err(void_flaw(shape, list, x)),
+    match build(list, table) {
+        Ok(_) => Ok(()),
+        Err(x) => Err(void_flaw(list, x)),
     }
 }
 
@@ -86,5 +86,9 @@ pub fn rules_table(rules: RulesSoFar, list: &[u32], table: &mut [u16]) -> Result
     }
     let k = rules_length(rules, list);
     let t = rules_room(rules, table);
-    build_list(rules_shape(rules), &list[..k], &mut table[..t])
+    let list = RuleList {
+        shape: rules_shape(rules),
+        numbers: &list[..k],
+    };
+    build_list(&list, &mut table[..t])
 }

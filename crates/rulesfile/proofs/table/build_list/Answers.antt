@@ -4,4 +4,4 @@ use Rattle.rulesfile.proofs.Tabling.{build_place}
 use Rattle.rulesfile.proofs.table.build_list.Goals as goal
 
 pub void_flaw-requires-clause-place_fits : goal.void_flaw-requires-clause-place_fits
-void_flaw-requires-clause-place_fits c = build_place _ _ c.in-Refused.is c.build.ensures.answers
+void_flaw-requires-clause-place_fits c = build_place _ _ c.in-Err.ensures.answers
