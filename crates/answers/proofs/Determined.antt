@@ -13,8 +13,6 @@ use Rattle.answers.specs.Opened.{opened_said, OpenedWith}
 use Rattle.answers.specs.declared.open.Opened.{Opened}
 use Rattle.answers.proofs.answer.header_flaw.Kinds as header_flaw_kinds
 use Rattle.answers.proofs.answer.header_flaw.Reads as header_flaw_reads
-use Rattle.answers.proofs.answer.is_refused.Kinds as is_refused_kinds
-use Rattle.answers.proofs.answer.is_refused.Reads as is_refused_reads
 use Rattle.answers.proofs.answer.put_answer.Kinds as put_answer_kinds
 use Rattle.answers.proofs.answer.put_answer.Reads as put_answer_reads
 use Rattle.answers.proofs.count.count_start.Kinds as count_start_kinds
@@ -35,9 +33,6 @@ use Rattle.answers.proofs.open.open_rules.Reads as open_rules_reads
 -- ---- answer
 pub header_flaw_one : OneAnswer 0 header_flaw_kinds.ps header_flaw_kinds.r header_flaw_reads.Learnt
 header_flaw_one κs a x y e g p q = p ∙ sym q
-
-pub is_refused_one : OneAnswer 0 is_refused_kinds.ps is_refused_kinds.r is_refused_reads.Learnt
-is_refused_one κs a x y e g p q = p ∙ sym q
 
 pub put_answer_one : OneAnswer 3 put_answer_kinds.ps put_answer_kinds.r put_answer_reads.Learnt
 put_answer_one κs a x y e g p q = place_one p.put q.put

@@ -1,8 +1,6 @@
 -- What is printed once the rules have been read, before any header.
 -- Assumes nothing: these are definitions.
-use Rattle.std.specs.Prelude.{ℕ, List, ◌≡◌}
-use Rattle.ranges.specs.Numbers.{pick}
-use Rattle.rulesfile.specs.Flaws.{flawless}
+use Rattle.std.specs.Prelude.{ℕ, List, ◌≡◌, Option, None, Some}
 use Rattle.flaws.specs.Numbered.{flaw_number}
 use Rattle.rulesfile.specs.Tabled.{tabled_flaw, tabled_after}
 use Rattle.flaws.specs.declared.flaw.Flaw.{Flaw}
@@ -11,8 +9,9 @@ use Rattle.answers.specs.Said.{head_said, refused_said, PutLine}
 use Rattle.answers.specs.declared.open.Opened.{Opened}
 
 -- a flaw is refused by its number; else the first line
-unfoldable pub opened_said : Flaw → List ℕ
-opened_said flaw = pick (flawless flaw) head_said (refused_said (flaw_number flaw))
+abbrev pub opened_said : Option Flaw → List ℕ
+opened_said None = head_said
+opened_said (Some flaw) = refused_said (flaw_number flaw)
 
 -- the table is built, and that line is put at the front of the run
 pub record OpenedWith (rules : RulesSoFar) (list table out : List ℕ) (r : Opened) (built after : List ℕ) : Type 0 where

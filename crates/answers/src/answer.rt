@@ -1,7 +1,7 @@
 // The answer to a header line that has ended.
 ghost use Rattle.std.specs.Prelude.{◌≡◌};
 ghost use Rattle.lists.specs.Rules.{listed};
-ghost use Rattle.answers.specs.HeaderLines.{header_flaw, is_refused, answer_said};
+ghost use Rattle.answers.specs.HeaderLines.{header_flaw, answer_said};
 ghost use Rattle.answers.specs.Said.{PutLine};
 
 use crate::say::{put_looked, put_refused};
@@ -13,8 +13,6 @@ use text::line::Line;
 // Why a header line is refused. Cells count from 1, as the reader counts them.
 #[derive(Clone, Copy)]
 pub enum HeaderFlaw {
-    // It is not.
-    Nothing,
     // A cell is no plain number from 0 to 4294967295.
     NotNumber { cell: u32 },
     // The same, where an LF stands in the line that no CR precedes.
@@ -23,38 +21,26 @@ pub enum HeaderFlaw {
     OtherWidth { cells: u32 },
 }
 
-// Says why a line that has ended is refused, for rules of d fields.
-pub fn header_flaw(line: Line, d: usize) -> HeaderFlaw
+// Says why a line that has ended is refused, for rules of d fields, if it is.
+pub fn header_flaw(line: Line, d: usize) -> Option<HeaderFlaw>
     ensures { result ≡ header_flaw d line.feed line.row.bad line.row.cells }
 {
     let row = line.row;
-    if row.bad != 0 {
+    if let Some(cell) = row.bad {
         if line.feed {
-            return HeaderFlaw::LoneFeed;
+            return Some(HeaderFlaw::LoneFeed);
         }
-        return HeaderFlaw::NotNumber { cell: row.bad };
+        return Some(HeaderFlaw::NotNumber { cell });
     }
     if row.cells as usize == d {
-        return HeaderFlaw::Nothing;
+        return None;
     }
-    HeaderFlaw::OtherWidth { cells: row.cells }
-}
-
-// Says whether a line with a flaw is refused: every flaw but none.
-pub fn is_refused(flaw: HeaderFlaw) -> bool
-    ensures { result ≡ is_refused flaw }
-{
-    match flaw {
-        HeaderFlaw::Nothing => false,
-        HeaderFlaw::NotNumber { cell } => true,
-        HeaderFlaw::LoneFeed => true,
-        HeaderFlaw::OtherWidth { cells } => true,
-    }
+    Some(HeaderFlaw::OtherWidth { cells: row.cells })
 }
 
 // Puts the answer to a line: the lookup's where it has no flaw, and else refused,8.
 pub fn put_answer(
-    flaw: HeaderFlaw,
+    flaw: Option<HeaderFlaw>,
     shape: Shape,
     list: &[u32],
     table: &[u16],
@@ -64,7 +50,7 @@ pub fn put_answer(
 ) -> usize
     ensures { PutLine out.old at (answer_said (listed shape list.now) table.now flaw header) out.new result }
 {
-    if is_refused(flaw) {
+    if flaw.is_some() {
         return put_refused(BAD_LINE, out, at);
     }
     let looked = lookup(shape, list, table, header);

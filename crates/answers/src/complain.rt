@@ -21,7 +21,6 @@ fn put_why(flaw: HeaderFlaw, d: usize, path: &[u8], out: &mut [u8], at: usize) -
     ensures { Put out.old at (why_said path.now d flaw) out.new result }
 {
     match flaw {
-        HeaderFlaw::Nothing => at,
         HeaderFlaw::NotNumber { cell } => {
             let a = put_text(b", ", out, at);
             put_not_number(cell, out, a)
@@ -39,16 +38,19 @@ fn put_why(flaw: HeaderFlaw, d: usize, path: &[u8], out: &mut [u8], at: usize) -
     }
 }
 
-// Puts the line that says how many header lines were refused, and of the first which it is and why.
+// Puts the line that says how many header lines were refused, and of the first which it is and why; nothing where none
+// was.
 pub fn put_headers_flaws(headers: HeadersSoFar, d: usize, path: &[u8], out: &mut [u8]) -> usize
     ensures { Put out.old 0 (headers_complaint path.now d headers) out.new result }
 {
+    let Some(refused) = headers.refused else {
+        return 0;
+    };
     let a = put_named(b"gateway", path, out, 0);
     let b = put_text(b": ", out, a);
-    let c = put_counted(headers.refused, b" line", out, b);
+    let c = put_counted(refused.count, b" line", out, b);
     let e = put_text(b" refused, the first is line ", out, c);
-    let f = put_number(headers.first, out, e);
-    let flaw = headers.flaw;
-    let g = put_why(flaw, d, path, out, f);
+    let f = put_number(refused.first, out, e);
+    let g = put_why(refused.flaw, d, path, out, f);
     put_text(b"\n", out, g)
 }

@@ -6,10 +6,10 @@ use flaws::flaw::{Flaw, flaw_number};
 use rulesfile::file::RulesSoFar;
 use rulesfile::table::rules_table;
 
-// The rules' flaw, and the next place for output.
+// The rules' flaw, if they have one, and the next place for output.
 #[derive(Clone, Copy)]
 pub struct Opened {
-    pub flaw: Flaw,
+    pub flaw: Option<Flaw>,
     pub at: usize,
 }
 
@@ -18,12 +18,10 @@ pub struct Opened {
 pub fn open_rules(rules: RulesSoFar, list: &[u32], table: &mut [u16], out: &mut [u8]) -> Opened
     ensures { OpenedWith rules list.now table.old out.old result table.new out.new }
 {
-    let flaw = rules_table(rules, list, table);
-    let number = flaw_number(flaw);
-    if number != 0 {
-        let at = put_refused(number, out, 0);
-        return Opened { flaw, at };
-    }
-    let at = put_head(out, 0);
+    let flaw = rules_table(rules, list, table).err();
+    let at = match flaw {
+        None => put_head(out, 0),
+        Some(flaw) => put_refused(flaw_number(flaw), out, 0),
+    };
     Opened { flaw, at }
 }

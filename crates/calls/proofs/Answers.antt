@@ -1,15 +1,13 @@
 -- Laws of the answer to a line (`specs/Answers.antt`), way by way.
 --     unnamed                                   no blank has ended the name
---     ill_read, crowded, lost_name, called      a line whose name has ended
---     unnamed_put, named_bad, named_call        what is put, and what is left of the numbers
---     flagged-bad, flagged_call                 the same by the flags of D
+--     ill_read, crowded, called                 a line whose name has ended
 --     answer_long                               of which there are as many
 --     call_over                                 more numbers than any call takes
 -- Assumes nothing.
-use Prim.Native.Nat.{ℕ, ◌-◌, ◌≤◌, ◌<◌}
+use Prim.Native.Nat.{ℕ, ◌≤◌, ◌<◌}
 use mathlib.Core.Bool.{Bool, true, false}
 use mathlib.Core.List.{List, ◌++◌}
-use mathlib.Core.Path.{◌≡◌, refl, ap, ◌∙◌}
+use mathlib.Core.Path.{◌≡◌, refl, ◌∙◌}
 use native.Mathlib.Omega.{arith}
 use borrow.Author.Tests.{le-leb, lt-leb}
 use lib.ListN.{length, take, drop, length-append, length-take, length-drop}
@@ -17,12 +15,10 @@ use Rattle.ranges.specs.Numbers.{pick}
 use Rattle.text.specs.Rows.{good, row_next, kept_at}
 use Rattle.text.specs.declared.row.Row.{Row}
 use Rattle.text.proofs.Rows.{kept_long}
-use Rattle.words.specs.Limits.{line_room, answer_most}
-use Rattle.phrases.specs.Few.{PutFew}
+use Rattle.words.specs.Limits.{line_room}
 use Rattle.words.specs.Words.{bad_said, following, side_said, p2r_said}
 use Rattle.words.specs.declared.table_words.TableWord.{TableWord}
 use Rattle.words.specs.declared.table_words.TableWord.TheVariants.{Build, Lookup, Audit, Report}
-use Rattle.phrases.proofs.Few.{few_more}
 use Rattle.words.proofs.Parts.{list_over, tables_over}
 use Rattle.words.proofs.Words.{choice_over, exact_bad, r2p_over, left_long}
 use Rattle.hearing.specs.declared.line.Line.{Line}
@@ -51,59 +47,9 @@ module _ (k : ℕ) (name : List ℕ) (row : Row) (run : List ℕ) where
   unfolding is_call
   crowded stands lt = rw (stands, lt-leb row.cells (length run) lt)
 
-  -- never: the name stands where its bytes were put
-  pub lost_name : good row ≡ true → row.cells ≤ length run → length name < k → is_call k name row run ≡ false
-  unfolding is_call
-  lost_name stands few lt = rw (stands, le-leb row.cells (length run) few, lt-leb k (length name) lt)
-
   pub called : good row ≡ true → row.cells ≤ length run → k ≤ length name → is_call k name row run ≡ true
   unfolding is_call
   called stands few within = rw (stands, le-leb row.cells (length run) few, le-leb k (length name) within)
-
--- ---- what is put and left, way by way
--- the answer to the line s, without its LF, and what it leaves of the numbers
-abbrev pub Answered : Heard → List ℕ → ℕ → List ℕ → List ℕ → ℕ → Type 0
-Answered s out at left after end = PutFew (answer_most - 1) out at (answer_said s) after end × (left ≡ answer_left s)
-
--- the name has ended, and the line's end has ended the last number: the row and the run of the numbers then
-pub record Ended (s : Heard) (row : Row) (run : List ℕ) : Type 0 where
-  pub named : s.line.named ≡ true
-  pub last : row ≡ row_next s.line.row
-  pub kept : run ≡ kept_at s.line.row 0 s.numbers
-
--- no blank: a name alone, or nothing
-pub unnamed_put : (s : Heard) {out : List ℕ} {at : ℕ} {after : List ℕ} {end : ℕ} → s.line.named ≡ false → PutFew 70 out at bad_said after end
-    → Answered s out at s.numbers after end
-unfolding answer_said answer_left
-unnamed_put s e put = (rw e (few_more (omega arith) put), rw e refl)
-
-module _ {s : Heard} {row : Row} {run : List ℕ} (so : Ended s row run) {out : List ℕ} {at : ℕ} {after : List ℕ} {end : ℕ} where
-  pub named_bad : is_call s.line.length s.name row run ≡ false → PutFew 70 out at bad_said after end → Answered s out at run after end
-  unfolding answer_said answer_left
-  named_bad bad put = (rw (so.named, ← so.last, ← so.kept, bad) (few_more (omega arith) put), rw (so.named, ← so.last, ← so.kept, bad) refl)
-
-  pub named_call : {word : Word} {flags : Flags} {left : List ℕ} → is_call s.line.length s.name row run ≡ true
-      → word ≡ word_of (take s.line.length s.name) → flags ≡ flags_ended s.line.flags
-      → PutFew (answer_most - 1) out at (flagged_said word flags (take row.cells run)) after end → left ≡ flagged_left word flags (take row.cells run)
-      → Answered s out at (left ++ drop row.cells run) after end
-  unfolding answer_said answer_left
-  named_call stands asks ends put left_is = (
-    rw (so.named, ← so.last, ← so.kept, stands, ← asks, ← ends) put,
-    rw (so.named, ← so.last, ← so.kept, stands, ← asks, ← ends) (ap (λ l. l ++ drop row.cells run) left_is),
-  )
-
--- ---- with the flags of D: t is a callee's answer whether the call may have them
-module _ (word : Word) (flags : Flags) (ns : List ℕ) {t : Bool} (is-t : t ≡ flags_fit word flags) {out : List ℕ} {at : ℕ} {after : List ℕ} {end : ℕ} where
-  pub flagged-bad : t ≡ false → PutFew 70 out at bad_said after end
-      → PutFew (answer_most - 1) out at (flagged_said word flags ns) after end × (ns ≡ flagged_left word flags ns)
-  unfolding flagged_said flagged_left
-  flagged-bad e put = (rw (← is-t, e) (few_more (omega arith) put), rw (← is-t, e) refl)
-
-  pub flagged_call : t ≡ true → {dates : ℕ} {left : List ℕ} → dates ≡ dates_of flags
-      → PutFew (answer_most - 1) out at (word_said word dates ns) after end → left ≡ word_left word ns
-      → PutFew (answer_most - 1) out at (flagged_said word flags ns) after end × (left ≡ flagged_left word flags ns)
-  unfolding flagged_said flagged_left
-  flagged_call e is put left_is = (rw (← is-t, e, ← is) put, rw (← is-t, e) left_is)
 
 -- ---- the run of the numbers keeps its length
 word_long : (word : Word) (ns : List ℕ) → length (word_left word ns) ≡ length ns

@@ -1,23 +1,22 @@
 -- Laws of serving line by line (`specs/Replies.antt`).
---     room_is, room_not                    whether there is room
---     came_none, turn_most, came_more      the first bytes are served: none; one turn of the loop
+--     turn_most, came_more                 the first bytes are served: one turn of the loop
 --     lines_full, lines_all                serving ends: there is no more room, or all bytes are served
 --     served_lines                         no more bytes are served than there are, and some
---     last_none, last_some                 the input's end
+--     last_some                            the input's end: something has come of the last line
 -- Assumes nothing.
 use Prim.Native.Nat.{ℕ, ◌+◌, ◌-◌, ◌≤◌, ◌<◌}
 use mathlib.Core.Bool.{true, false}
 use mathlib.Core.List.{List, [], ◌++◌}
-use mathlib.Core.Path.{◌≡◌, refl, sym, ap, ◌∙◌}
+use mathlib.Core.Path.{◌≡◌, sym, ap, ◌∙◌}
 use native.Mathlib.Omega.{arith}
-use borrow.Author.Tests.{le-leb, lt-leb, leb-true}
+use borrow.Author.Tests.{leb-true}
 use lib.ListN.{length, take, drop, length-append, length-drop}
 use lib.Seq.{take-add, drop-drop, drop-length}
 use Rattle.ranges.specs.Numbers.{pick}
 use Rattle.text.specs.Cells.{fed}
 use Rattle.text.specs.Puts.{Put, place_after}
 use Rattle.text.proofs.Feeding.{fed_append}
-use Rattle.text.proofs.Puts.{put_no_byte, put_long, put_then}
+use Rattle.text.proofs.Puts.{put_long, put_then}
 use Rattle.words.specs.Limits.{answer_most}
 use Rattle.phrases.specs.Few.{PutFew}
 use Rattle.words.proofs.Lent.{rest_lent}
@@ -30,14 +29,6 @@ use Rattle.calls.proofs.Serving.{said_append, end_most, end_some, turn_to, serve
 
 -- ---- room
 module _ (n at : ℕ) where
-  pub room_is : at + answer_most ≤ n → room_at n at ≡ true
-  unfolding room_at
-  room_is le = le-leb (at + answer_most) n le
-
-  pub room_not : n < at + answer_most → room_at n at ≡ false
-  unfolding room_at
-  room_not lt = lt-leb (at + answer_most) n lt
-
   room_told : room_at n at ≡ true → at + answer_most ≤ n
   unfolding room_at
   room_told e = leb-true (at + answer_most) n e
@@ -55,16 +46,6 @@ pub record Came (s : Heard) (bytes out : List ℕ) (t : Heard) (next : ℕ) (aft
   pub said : Put out 0 (said_to s (take next bytes)) after at
   pub count : served_to (length out) 0 s bytes ≡ next + served_to (length out) at t (drop next bytes)
   pub room : answer_most ≤ length out → RoomLeft (said_to s (take next bytes)) (length out) at
-
-pub came_none : {s : Heard} {bytes out : List ℕ} → Came s bytes out s 0 out 0
-came_none =
-    record {
-      few = omega arith;
-      left = refl;
-      said = put_no_byte;
-      count = omega arith;
-      room = λ enough. record { none_lost = omega arith; room = omega arith };
-    }
 
 add_again : (a b c : ℕ) → a + (b + c) ≡ a + b + c
 add_again a b c = omega arith
@@ -169,11 +150,6 @@ served_lines s {bytes} {out} served some =
     (omega (arith, served.count, served_some bytes (length out) 0 s some), omega (arith, served.count, served_most bytes (length out) 0 s))
 
 -- ---- the input's end
--- nothing has come of the last line
-pub last_none : {s : Heard} {out : List ℕ} → begun_line s.line ≡ false → ServedLast s out s.numbers out 0
-last_none none = record { said = rw none put_no_byte; left_is = rw none refl; whole = λ enough. rw none refl }
-
--- something has
 pub last_some : {s : Heard} {out left after : List ℕ} {end : ℕ} → begun_line s.line ≡ true → PutFew answer_most out 0 (line_said s) after end → left ≡ answer_left s
     → ServedLast s out left after end
 last_some begun put left_is = record { said = rw begun put.puts; left_is = rw begun left_is; whole = λ enough. rw begun (all_few_put put enough) }

@@ -24,7 +24,7 @@ use Rattle.calls.specs.Answers.{answer_left}
 use Rattle.hearing.specs.declared.line.Line.{Line}
 use Rattle.calls.specs.Replies.{line_said, line_anew, served_byte, said_byte, said_to, room_at, served_to}
 use Rattle.calls.specs.Serving.{line_end, Served}
-use Rattle.hearing.proofs.Lines.{line_here, line_past, line_within}
+use Rattle.hearing.proofs.Lines.{line_empty, line_here, line_past, line_within}
 
 -- ---- one byte
 -- LF
@@ -59,18 +59,18 @@ record Within (s : Heard) (bs : List ℕ) : Type 0 where
   pub left : fed served_byte s (take (line_in bs) bs) ≡ fed heard_byte s (take (line_in bs) bs)
 
 within : (bs : List ℕ) (s : Heard) → Within s bs
-unfolding line_in
-within [] s = record { said = refl; left = refl }
+within [] s = record { said = rw line_empty; left = rw line_empty }
 within (b ∷ bs) s = go (eqb b 10) refl (within bs)
   where
     go : (t : Bool) → eqb b 10 ≡ t → ((u : Heard) → Within u bs) → Within s (b ∷ bs)
-    go true e follow = record { said = rw e; left = rw e }
+    go true e follow = let here = line_here b bs e in record { said = rw here; left = rw here }
     go false e follow =
         let byte = byte_stays s b e in
+        let past = line_past b bs e in
         let rest = follow (heard_byte s b) in
         record {
-          said = rw e (ap (λ w. w ++ said_to (served_byte s b) (take (line_in bs) bs)) byte.said ∙ ap (λ t. said_to t (take (line_in bs) bs)) byte.left ∙ rest.said);
-          left = rw e (ap (λ t. fed served_byte t (take (line_in bs) bs)) byte.left ∙ rest.left);
+          said = rw past (ap (λ w. w ++ said_to (served_byte s b) (take (line_in bs) bs)) byte.said ∙ ap (λ t. said_to t (take (line_in bs) bs)) byte.left ∙ rest.said);
+          left = rw past (ap (λ t. fed served_byte t (take (line_in bs) bs)) byte.left ∙ rest.left);
         }
 
 -- and LF

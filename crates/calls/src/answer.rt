@@ -3,7 +3,7 @@ ghost use Rattle.std.specs.Prelude.{◌-◌, ◌≡◌};
 ghost use Rattle.words.specs.Limits.{answer_most};
 ghost use Rattle.phrases.specs.Few.{PutFew};
 ghost use Rattle.hearing.specs.Lines.{heard};
-ghost use Rattle.calls.specs.Answers.{word_said, word_left, flagged_said, flagged_left, answer_said, answer_left};
+ghost use Rattle.calls.specs.Answers.{word_said, word_left, flagged_said, flagged_left, is_call, answer_said, answer_left};
 ghost use Rattle.calls.specs.Replies.{line_said};
 
 use crate::word::{Word, flags_fit, word_of};
@@ -11,13 +11,14 @@ use hearing::flags::{Flags, dates_of, flags_end};
 use hearing::line::Line;
 use phrases::say::put_bad;
 use text::put::put_byte;
-use text::row::row_next;
+use text::row::{Row, row_next};
 use words::choice_words::call_choice;
 use words::list_words::{call_check, call_independent, call_scan};
 use words::prefix_words::{call_p2r, call_r2p, call_side};
 use words::table_words::call_table;
 
 // Puts what a call answers, given the flags of D and the line's numbers after its name. One call, r2p, writes among them.
+#[tactic(auto, using(phrases::proofs::Few::few_more))]
 fn put_word(word: Word, dates: u32, given: &mut [u32], out: &mut [u8], at: usize) -> usize
     ensures put_few { PutFew (answer_most - 1) out.old at (word_said word dates given.old) out.new result }
     ensures given_after { given.new ≡ word_left word given.old }
@@ -36,6 +37,7 @@ fn put_word(word: Word, dates: u32, given: &mut [u32], out: &mut [u8], at: usize
 }
 
 // Puts the same, unless the call may not have such flags.
+#[tactic(auto, using(phrases::proofs::Few::few_more), unfolding(crate::specs::Answers::flagged_said, crate::specs::Answers::flagged_left))]
 fn put_flagged(word: Word, flags: Flags, given: &mut [u32], out: &mut [u8], at: usize) -> usize
     ensures put_few { PutFew (answer_most - 1) out.old at (flagged_said word flags given.old) out.new result }
     ensures given_after { given.new ≡ flagged_left word flags given.old }
@@ -46,7 +48,17 @@ fn put_flagged(word: Word, flags: Flags, given: &mut [u32], out: &mut [u8], at: 
     put_word(word, dates_of(flags), given, out, at)
 }
 
+// Says of a line whose word and last number have ended whether it is a call: every number stands, and there was room for all
+// of them and for the word.
+#[tactic(auto, unfolding(crate::specs::Answers::is_call))]
+fn is_call(length: usize, name: &[u8], row: Row, numbers: &[u32]) -> bool
+    ensures { result ≡ is_call length name.now row numbers.now }
+{
+    row.bad.is_none() && row.cells as usize <= numbers.len() && length <= name.len()
+}
+
 // Puts the answer to a line, without its LF. The line's end ends its last number, which goes to its place first, and the flags.
+#[tactic(auto, using(phrases::proofs::Few::few_more), unfolding(crate::specs::Answers::is_call, crate::specs::Answers::answer_said, crate::specs::Answers::answer_left))]
 fn put_answer(line: Line, name: &[u8], numbers: &mut [u32], out: &mut [u8], at: usize) -> usize
     ensures put_few { PutFew (answer_most - 1) out.old at (answer_said (heard line name.now numbers.old)) out.new result }
     ensures numbers_after { numbers.new ≡ answer_left (heard line name.now numbers.old) }
@@ -54,22 +66,13 @@ fn put_answer(line: Line, name: &[u8], numbers: &mut [u32], out: &mut [u8], at: 
     if !line.named {
         return put_bad(out, at);
     }
-    let last = line.row;
-    let row = row_next(last, 0, numbers);
-    if row.bad != 0 {
+    let row = row_next(line.row, 0, numbers);
+    if !is_call(line.length, name, row, numbers) {
         return put_bad(out, at);
     }
     let count = row.cells as usize;
-    if numbers.len() < count {
-        return put_bad(out, at);
-    }
-    let length = line.length;
-    if name.len() < length {
-        return put_bad(out, at);
-    }
-    let word = word_of(&name[..length]);
-    let came = line.flags;
-    let flags = flags_end(came);
+    let word = word_of(&name[..line.length]);
+    let flags = flags_end(line.flags);
     put_flagged(word, flags, &mut numbers[..count], out, at)
 }
 

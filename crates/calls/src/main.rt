@@ -87,10 +87,8 @@ fn run_words(env: &impl Env, streams: Streams, start: Start) -> Ended {
     if words == 0 {
         return ended_by(run(streams));
     }
-    if words == 1 {
-        if is_own(env, asked, 0, b"--help") {
-            return ended_by(say_words(streams));
-        }
+    if words == 1 && is_own(env, asked, 0, b"--help") {
+        return ended_by(say_words(streams));
     }
     say_bytes(
         streams,

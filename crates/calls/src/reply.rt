@@ -49,16 +49,11 @@ fn serve_line(
 }
 
 // Says whether there is room for one more answer after a place.
+#[tactic(auto, using(words::proofs::Longest::table_most_lem), unfolding(crate::specs::Replies::room_at))]
 fn has_room(out: &[u8], at: usize) -> bool
     ensures { result ≡ room_at (length out.now) at }
 {
-    if out.len() < at {
-        return false;
-    }
-    if out.len() - at < ANSWER_MOST {
-        return false;
-    }
-    true
+    at <= out.len() && ANSWER_MOST <= out.len() - at
 }
 
 // Serves bytes line by line, until all are served or there is no more room, and puts the answers from the run's start
@@ -76,6 +71,7 @@ pub fn serve_lines(
     let mut present = line;
     let mut next = 0;
     let mut at = 0;
+    // (No `for`: how many bytes a turn serves is not known before it.)
     while next < bytes.len() {
         let place = serve_line(present, &bytes[next..], name, numbers, out, at);
         present = place.line;
@@ -100,16 +96,11 @@ pub fn serve_lines(
 fn has_begun(line: Line) -> bool
     ensures { result ≡ begun_line line }
 {
-    if line.named {
-        return true;
-    }
-    if 0 < line.length {
-        return true;
-    }
-    false
+    line.named || 0 < line.length
 }
 
 // Puts the answer to a last line that no LF ends, where anything has come of it.
+#[tactic(auto, using(crate::proofs::Replies::last_some))]
 pub fn put_last(line: Line, name: &[u8], numbers: &mut [u32], out: &mut [u8]) -> usize
     ensures { ServedLast (heard line name.now numbers.old) out.old numbers.new out.new result }
 {

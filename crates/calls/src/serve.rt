@@ -6,6 +6,7 @@ use hearing::line::{Line, line_start};
 use programs::output::{say_error, write_out};
 use programs::streams::Streams;
 use std::io::Read;
+use std::ops::ControlFlow;
 
 // Writes the first bytes of a run, as many as stand before a place, and answers whether that went well; where it did
 // not, says so on standard error.
@@ -15,15 +16,8 @@ fn flush(streams: Streams, out: &[u8], at: usize) -> bool
     write_out(streams, b"calls: write", out, at)
 }
 
-// What is left after a piece of input: the present line, whether to go on, and whether all went well so far.
-#[derive(Clone, Copy)]
-struct Turn {
-    line: Line,
-    going: bool,
-    well: bool,
-}
-
-// Serves the bytes of one read and writes what they answered.
+// Serves the bytes of one read and writes what they answered. To go on with is the present line then; a break says
+// whether all went well.
 fn serve_piece(
     streams: Streams,
     line: Line,
@@ -31,29 +25,22 @@ fn serve_piece(
     name: &mut [u8],
     numbers: &mut [u32],
     out: &mut [u8],
-) -> Turn {
+) -> ControlFlow<bool, Line> {
     let mut present = line;
     let mut next = 0;
+    // (No `for`: how many bytes a turn serves is not known before it.)
     while next < bytes.len() {
         let place = serve_lines(present, &bytes[next..], name, numbers, out);
         present = place.line;
         next += place.next;
         if !flush(streams, out, place.at) {
-            return Turn {
-                line: present,
-                going: false,
-                well: false,
-            };
+            return ControlFlow::Break(false);
         }
     }
-    Turn {
-        line: present,
-        going: true,
-        well: true,
-    }
+    ControlFlow::Continue(present)
 }
 
-// Reads once and serves what came.
+// Reads once and serves what came, in the same way.
 fn serve_some(
     streams: Streams,
     line: Line,
@@ -61,25 +48,14 @@ fn serve_some(
     name: &mut [u8],
     numbers: &mut [u32],
     out: &mut [u8],
-) -> Turn {
+) -> ControlFlow<bool, Line> {
     let mut input = streams.input;
     match input.read(bytes) {
-        Ok(0) => {
-            let well = serve_last(streams, line, name, numbers, out);
-            Turn {
-                line,
-                going: false,
-                well,
-            }
-        }
+        Ok(0) => ControlFlow::Break(serve_last(streams, line, name, numbers, out)),
         Ok(n) => serve_piece(streams, line, &bytes[..n], name, numbers, out),
         Err(error) => {
             say_error(streams, b"calls: read", error);
-            Turn {
-                line,
-                going: false,
-                well: false,
-            }
+            ControlFlow::Break(false)
         }
     }
 }
@@ -97,7 +73,7 @@ fn serve_last(
 }
 
 // Serves standard input to its end, and says whether all of it was read and all answers were written. A proved loop has to
-// end, and nothing says that the input does: so it counts its turns down, from a number that no run uses up.
+// end, and nothing says that the input does: so it has a number of turns that no run uses up.
 pub(crate) fn serve_all(
     streams: Streams,
     bytes: &mut [u8],
@@ -106,14 +82,11 @@ pub(crate) fn serve_all(
     out: &mut [u8],
 ) -> bool {
     let mut line = line_start();
-    let mut turns = u64::MAX;
-    while turns > 0 {
-        let turn = serve_some(streams, line, bytes, name, numbers, out);
-        if !turn.going {
-            return turn.well;
+    for _ in 0..u64::MAX {
+        match serve_some(streams, line, bytes, name, numbers, out) {
+            ControlFlow::Continue(present) => line = present,
+            ControlFlow::Break(well) => return well,
         }
-        line = turn.line;
-        turns -= 1;
     }
     false
 }

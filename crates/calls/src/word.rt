@@ -1,6 +1,6 @@
 // The names of the calls, and which of them have a D, which may have flags.
 ghost use Rattle.std.specs.Prelude.{◌≡◌};
-ghost use Rattle.calls.specs.Names.{prefix_word, choice_word, table_word, word_of, has_d, flags_fit};
+ghost use Rattle.calls.specs.Names.{choice_word, word_of, has_d, flags_fit};
 
 use hearing::flags::Flags;
 use programs::bytes::same;
@@ -21,7 +21,9 @@ pub enum Word {
     Unknown,
 }
 
-// Says which call a name asks for.
+// Says which call a name asks for. (The names are compared one by one, in two functions: a `match` on them leaves a goal for
+// each of some sixty ways through their bytes, and all twelve in one are past what the check finds alone.)
+#[tactic(auto, unfolding(crate::specs::Names::word_of, crate::specs::Names::table_word))]
 pub fn word_of(name: &[u8]) -> Word
     ensures { result ≡ word_of name.now }
 {
@@ -34,13 +36,6 @@ pub fn word_of(name: &[u8]) -> Word
     if same(name, b"independent") {
         return Word::Independent;
     }
-    table_word(name)
-}
-
-// Says which of the calls of a list and a table a name asks for, or of those that are left.
-fn table_word(name: &[u8]) -> Word
-    ensures { result ≡ table_word name.now }
-{
     if same(name, b"build") {
         return Word::Table(TableWord::Build);
     }
@@ -56,7 +51,8 @@ fn table_word(name: &[u8]) -> Word
     choice_word(name)
 }
 
-// Says which of the calls of a list and a choice of partitions a name asks for, or of those that are left.
+// Says which of the calls that are left a name asks for: those of a choice of partitions, and of ranges and prefixes.
+#[tactic(auto, unfolding(crate::specs::Names::choice_word, crate::specs::Names::prefix_word))]
 fn choice_word(name: &[u8]) -> Word
     ensures { result ≡ choice_word name.now }
 {
@@ -66,13 +62,6 @@ fn choice_word(name: &[u8]) -> Word
     if same(name, b"layout") {
         return Word::Choice(ChoiceWord::Layout);
     }
-    prefix_word(name)
-}
-
-// Says which of the calls of ranges and prefixes a name asks for.
-fn prefix_word(name: &[u8]) -> Word
-    ensures { result ≡ prefix_word name.now }
-{
     if same(name, b"side") {
         return Word::Side;
     }
@@ -89,17 +78,7 @@ fn prefix_word(name: &[u8]) -> Word
 fn has_d(word: Word) -> bool
     ensures { result ≡ has_d word }
 {
-    match word {
-        Word::Check => true,
-        Word::Scan => true,
-        Word::Independent => true,
-        Word::Choice(call) => true,
-        Word::Table(call) => true,
-        Word::Side => true,
-        Word::P2r => false,
-        Word::R2p => false,
-        Word::Unknown => false,
-    }
+    !matches!(word, Word::P2r | Word::R2p | Word::Unknown)
 }
 
 // Says whether a call may have such flags: eight flags for D, or none.
@@ -108,7 +87,7 @@ pub fn flags_fit(word: Word, flags: Flags) -> bool
 {
     match flags {
         Flags::Without => true,
-        Flags::Read { count, dates } => has_d(word),
+        Flags::Read { .. } => has_d(word),
         Flags::Bad => false,
     }
 }

@@ -4,14 +4,15 @@
 --     headers_read       what the whole file prints, and what its lines come to
 -- Assumes nothing.
 use Prim.Native.Nat.{ℕ, zero, suc, ◌+◌, ◌-◌, ◌≤◌, ◌<◌}
-use mathlib.Core.Bool.{Bool, true, false, not}
+use mathlib.Core.Bool.{Bool, true, false}
 use mathlib.Core.List.{List, [], ◌∷◌, ◌++◌, append_assoc, append-nil}
 use mathlib.Core.Path.{◌≡◌, refl, sym, ap, ◌∙◌}
 use native.Mathlib.Omega.{arith}
-use borrow.Author.Tests.{eqb-true, eqb-false}
+use borrow.Author.Tests.{eqb-true}
 use lib.Dec.{eqb}
 use lib.ListN.{length, take, drop, replicate}
 use lib.Seq.{sets, sets-eq, take-append-add}
+use Rattle.std.specs.Prelude.{Option, None, Some, is_none}
 use Rattle.ranges.specs.Refusals.{number_of, BadLine}
 use Rattle.ranges.specs.Numbers.{pick, ◌and◌}
 use Rattle.lists.specs.Rules.{Rules, fields_of}
@@ -26,9 +27,8 @@ use Rattle.text.proofs.Counted.{line_bad, bad-none, cells_count, cells_run, valu
 use Rattle.text.proofs.Judging.{judged_is}
 use Rattle.answers.specs.Said.{refused_said, looked_said}
 use Rattle.answers.specs.Counts.{no_lines, counted_by}
-use Rattle.answers.specs.HeaderLines.{header_flaw, is_refused, answer_said, header_of, line_said, lines_said, flaw_on}
+use Rattle.answers.specs.HeaderLines.{header_flaw, answer_said, header_of, line_said, lines_said, flaw_on}
 use Rattle.gateway.specs.HeaderBytes.{no_headers, Answered, answered, header_at, judge_header, headers_in_file, headers_step, headers_end}
-use Rattle.answers.proofs.Flaws.{flaw_feed, flaw_bad, flaw_none, flaw_other, said_refused, said_looked}
 use Rattle.answers.proofs.Counting.{counts}
 
 -- ---- a line's cells, read into zeros
@@ -76,31 +76,18 @@ module _ (R : Rules) (T : List ℕ) (narrow : fields_of R ≤ header_length) whe
   small : d < exact_below
   small = omega arith
 
-  -- a line is refused exactly where it is bad or hasn't d cells
-  refused_is : (l : List ℕ) → (s t : Bool) → all_numbers (cells_of l) ≡ s → eqb (length (cells_of l)) d ≡ t → is_refused (flaw_on d l) ≡ not (s and t)
-  refused_is l s t p q = go s t (bad-none 0 (cells_of l) ∙ p) (many_same (cells_of l) d small ∙ q)
-    where
-      go : (s t : Bool) → eqb (bad_in 0 (cells_of l)) 0 ≡ s → eqb (many_more 0 (cells_of l)) d ≡ t → is_refused (flaw_on d l) ≡ not (s and t)
-      go true true e f = ap is_refused (flaw_none d (feed_in l) (bad_in 0 (cells_of l)) (many_more 0 (cells_of l)) (eqb-true (bad_in 0 (cells_of l)) 0 e) (eqb-true (many_more 0 (cells_of l)) d f))
-      go true false e f = ap is_refused (flaw_other d (feed_in l) (bad_in 0 (cells_of l)) (many_more 0 (cells_of l)) (eqb-true (bad_in 0 (cells_of l)) 0 e) (eqb-false (many_more 0 (cells_of l)) d f))
-      go false t e f = by_feed (feed_in l) refl
-        where
-          by_feed : (u : Bool) → feed_in l ≡ u → is_refused (flaw_on d l) ≡ true
-          by_feed true g = ap is_refused (flaw_feed d (feed_in l) (bad_in 0 (cells_of l)) (many_more 0 (cells_of l)) (eqb-false (bad_in 0 (cells_of l)) 0 e) g)
-          by_feed false g = ap is_refused (flaw_bad d (feed_in l) (bad_in 0 (cells_of l)) (many_more 0 (cells_of l)) (eqb-false (bad_in 0 (cells_of l)) 0 e) g)
-
-  -- what is printed for it
+  -- what is printed for it: it is refused exactly where it is bad or hasn't d cells
   said_is : (l : List ℕ) → answer_said R T (flaw_on d l) (whole_line 0 zeros l).run ≡ line_said R T l
-  said_is l = go (all_numbers (cells_of l)) (eqb (length (cells_of l)) d) refl refl
+  said_is l = rw (← bad-none 0 (cells_of l), ← many_same (cells_of l) d small) (go (bad_in 0 (cells_of l)) refl (eqb (many_more 0 (cells_of l)) d) refl)
     where
-      go : (s t : Bool) → all_numbers (cells_of l) ≡ s → eqb (length (cells_of l)) d ≡ t
-          → answer_said R T (flaw_on d l) (whole_line 0 zeros l).run ≡ pick (s and t) (looked_said (lookup_of R T (header_of (cells_of l)))) (refused_said (number_of BadLine))
-      go true true p q =
-          let count = eqb-true (length (cells_of l)) d q in
-          said_looked R T (flaw_on d l) (whole_line 0 zeros l).run (refused_is l true true p q)
-          ∙ ap (λ h. looked_said (lookup_of R T h)) (run_is (cells_of l) p (omega arith))
-      go true false p q = said_refused R T (flaw_on d l) (whole_line 0 zeros l).run (refused_is l true false p q)
-      go false t p q = said_refused R T (flaw_on d l) (whole_line 0 zeros l).run (refused_is l false t p q)
+      go : (b : Option ℕ) → bad_in 0 (cells_of l) ≡ b → (t : Bool) → eqb (many_more 0 (cells_of l)) d ≡ t
+          → answer_said R T (header_flaw d (feed_in l) b (many_more 0 (cells_of l))) (whole_line 0 zeros l).run
+          ≡ pick (is_none b and t) (looked_said (lookup_of R T (header_of (cells_of l)))) (refused_said (number_of BadLine))
+      go None p true q =
+          let count = eqb-true (length (cells_of l)) d (sym (many_same (cells_of l) d small) ∙ q) in
+          rw q (ap (λ h. looked_said (lookup_of R T h)) (run_is (cells_of l) (sym (bad-none 0 (cells_of l)) ∙ ap is_none p) (omega arith)))
+      go None p false q = rw q
+      go (Some bad) p t q = refl
 
   -- what a line leaves
   line_answered : (y : Answered) (l : List ℕ)

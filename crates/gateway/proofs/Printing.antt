@@ -11,6 +11,7 @@ use mathlib.Core.List.{List, [], ◌++◌, append_assoc, append-nil}
 use mathlib.Core.Path.{◌≡◌, refl, sym, ap, ◌∙◌, subst}
 use native.Mathlib.Omega.{arith}
 use lib.ListN.{length, take, drop, length-append}
+use Rattle.std.specs.Prelude.{Option}
 use Rattle.lists.specs.Rules.{Rules}
 use Rattle.lists.specs.Headers.{zeros}
 use Rattle.text.specs.Cells.{fed}
@@ -68,14 +69,14 @@ module _ (R : Rules) (T : List ℕ) (f : HeadersFile) (bytes header out : List �
         printed = printed_none (over_open header_at (judge_header R T) (answered f.headers []) f.reader bytes header took goes) (omega arith);
       }
 
-  pub took_ends : read.ended ≡ true → at + line_most ≤ length out → {flaw : HeaderFlaw} {after : List ℕ} {next : ℕ} {start : Reader} {headers : HeadersSoFar}
+  pub took_ends : read.ended ≡ true → at + line_most ≤ length out → {flaw : Option HeaderFlaw} {after : List ℕ} {next : ℕ} {start : Reader} {headers : HeadersSoFar}
       → flaw ≡ flaw_here R read.reader.line → PutLine out at (answer_said R T flaw left) after next → start ≡ no_bytes → headers ≡ counted_by f.headers flaw
       → HeadersTook R T f bytes header out at (record { file = record { reader = start; headers = headers }; used = read.used; at = next }) zeros after
   took_ends ends room {flaw} {after} {next} {start} {headers} why line begins counts =
       record { used = took.used; printed = subst (λ s. Printed s (record { reader = start; headers = headers }) zeros out at after next) is printed }
     where
       -- the state after the line's end
-      anew_here : HeaderFlaw → InFile (Over Answered)
+      anew_here : Option HeaderFlaw → InFile (Over Answered)
       anew_here g = in_file false (over (line_now no_line zeros) (answered (counted_by f.headers g) (answer_said R T g left)))
 
       is : anew_here flaw ≡ headers_fed R T f header (take read.used bytes)
@@ -149,7 +150,7 @@ module _ (R : Rules) (T : List ℕ) (f : HeadersFile) (header out : List ℕ) {r
       let is = ap (λ x. x.own) (over_stays header_at (judge_header R T) (answered f.headers []) f.reader header took none) in
       record { headers = ap (λ y. y.headers) is; prints = rw (← ap (λ y. y.said) is) (wrote_none (omega arith)) }
 
-  pub end_answered : read.ended ≡ true → {flaw : HeaderFlaw} {after : List ℕ} {next : ℕ} {headers : HeadersSoFar}
+  pub end_answered : read.ended ≡ true → {flaw : Option HeaderFlaw} {after : List ℕ} {next : ℕ} {headers : HeadersSoFar}
       → flaw ≡ flaw_here R read.reader.line → PutLine out 0 (answer_said R T flaw left) after next → headers ≡ counted_by f.headers flaw
       → HeadersEnd R T f header out (record { headers = headers; at = next }) after
   end_answered some {flaw} {after} {next} {headers} why line counts =

@@ -1,49 +1,39 @@
 -- Laws of what the functions that read, hand on and write leave (`specs/Serving.antt`).
---     readied_bytes                                           what was read
 --     RulesOn, on_start, on_more, on_flawed, on_ended         its pieces, one after the other
 --     said_front, end_front, quiet-fed, quiet_end             what was printed before does not matter
---     part_taken, TurnOn, turn_start, turn_more, turn_all, turn_some    the bytes of one read
+--     TurnOn, turn_start, turn_more, turn_all, turn_some    the bytes of one read
 --     HeadersOn, headers_start, headers_more, headers_ended   the headers file's pieces, one after the other
 --     read_at_front                                           answered by what stands at the front of what is lent
 -- Assumes nothing.
-use Prim.Native.Nat.{ℕ, ◌+◌, ◌-◌, ◌/◌, ◌≤◌, ◌<◌}
-use mathlib.Core.Bool.{Bool, true, false}
+use Prim.Native.Nat.{ℕ, ◌-◌, ◌/◌}
+use mathlib.Core.Bool.{Bool, true, false, not}
 use mathlib.Core.List.{List, [], ◌∷◌, ◌++◌, flatten, append_assoc, append-nil}
 use mathlib.Core.Path.{◌≡◌, refl, sym, ap, ◌∙◌, subst}
-use native.Mathlib.Omega.{arith}
-use borrow.Author.Tests.{eq-eqb, ne_eqb}
-use lib.ListN.{length, take, drop, length-drop}
-use lib.Seq.{take_all}
+use lib.ListN.{length, take, drop}
+use Rattle.std.proofs.lemmas.List.{take-append-drop, nil_from_length}
+use Rattle.std.specs.Prelude.{Option, None, Some, is_some, is_none}
 use Rattle.ranges.specs.Numbers.{pick}
-use Rattle.ranges.proofs.Numbers.{true-not-false}
 use Rattle.lists.specs.Rules.{Rules, listed, shape_of}
 use Rattle.lists.specs.declared.shape.Shape.{Shape}
 use Rattle.text.specs.Cells.{fed}
 use Rattle.text.specs.Files.{InFile, in_file}
 use Rattle.text.specs.Judging.{judged, Over, over, over_byte, over_close, over_begun}
-use Rattle.text.proofs.Feeding.{rest_is, fed_append, fed_on}
+use Rattle.text.proofs.Feeding.{rest_is, fed_append}
 use Rattle.text.proofs.Files.{map_in_file, finish_map}
-use Rattle.rulesfile.specs.Flaws.{flawless}
-use Rattle.flaws.specs.Numbered.{flaw_number}
 use Rattle.rulesfile.specs.Bytes.{no_rules, rules_in_file, rules_step, rules_end, rules_pieces}
 use Rattle.rulesfile.specs.Tabled.{length_read, list_read, room_read}
 use Rattle.rulesfile.specs.declared.file.RulesSoFar.{RulesSoFar}
 use Rattle.rulesfile.specs.declared.file.RulesFile.{RulesFile}
 use Rattle.gateway.specs.HeaderBytes.{no_headers, Answered, answered, header_at, judge_header, headers_in_file, headers_step, headers_fed, headers_end, HeadersPiece}
-use Rattle.gateway.specs.Serving.{Readied, RulesOver, RulesEnded, RulesFrom, RulesReadFrom, quiet, TurnTook, HeadersOver, HeadersLost, HeadersEnded, headers_after, HeadersReadFrom}
-use Rattle.gateway.specs.declared.input.Got.{Got}
-use Rattle.gateway.specs.declared.input.Got.TheVariants.{Bytes, End, Folder, Failed}
+use Rattle.gateway.specs.Serving.{RulesOver, RulesEnded, RulesFrom, RulesReadFrom, quiet, TurnTook, HeadersOver, HeadersLost, HeadersEnded, headers_after, HeadersReadFrom}
+use Rattle.gateway.specs.declared.input.NoBytes.{NoBytes}
+use Rattle.gateway.specs.declared.input.NoBytes.TheVariants.{End, Folder, Failed}
 use Rattle.gateway.specs.declared.read_rules.RulesRead.{RulesRead}
-use Rattle.gateway.specs.declared.read_rules.RulesRead.TheVariants.{Are as RulesAre, Failed as NoRules}
 use Rattle.gateway.specs.declared.headers.HeadersFile.{HeadersFile}
 use Rattle.gateway.specs.declared.headers.Progress.{Progress}
-use Rattle.gateway.specs.declared.answer_headers.Turn.{Turn}
 use Rattle.gateway.specs.declared.answer_headers.HeadersRead.{HeadersRead}
 use Rattle.gateway.specs.declared.answer_headers.HeadersRead.TheVariants.{Are as HeadersAre, Stopped, Failed as NoHeaders}
 use Rattle.gateway.proofs.Printing.{prefixed, fed-prefixed}
-
-pub readied_bytes : {r : Got} {k n : ℕ} → r ≡ Bytes k → Readied r n → k ≤ n
-readied_bytes {r} {k} {n} is readied = subst (λ x. Readied x n) is readied
 
 -- ---- the rules file's pieces
 -- those read so far, to which more may come
@@ -58,36 +48,34 @@ module _ (list : List ℕ) where
 
   module _ {file : RulesFile} {left : List ℕ} (before : RulesOn list file left) where
     -- the file's end
-    on_over : (said : Bool) (r : RulesRead) (after : List ℕ) → RulesOver file left said r after → RulesReadFrom list r after
-    on_over said (RulesAre rules told) after ends = record { pieces = before.pieces ++ []; are = ends.0 ∙ sym (before.on []) }
-    on_over said NoRules after ends = tt
+    on_over : (said : Bool) (r : Option RulesRead) (after : List ℕ) → RulesOver file left said r after → RulesReadFrom list r after
+    on_over said None after ends = tt
+    on_over said (Some r) after ends = record { pieces = before.pieces ++ []; are = ends.0 ∙ sym (before.on []) }
 
-    pub on_ended : (got : Got) (r : RulesRead) (after : List ℕ) → RulesEnded got file left r after → RulesReadFrom list r after
-    on_ended (Bytes k) r after ends = on_over false r after ends
+    pub on_ended : (why : NoBytes) (r : Option RulesRead) (after : List ℕ) → RulesEnded why file left r after → RulesReadFrom list r after
     on_ended End r after ends = on_over false r after ends
     on_ended Folder r after ends = on_over true r after ends
-    on_ended Failed (RulesAre rules told) after ends = absurd ends
-    on_ended Failed NoRules after ends = tt
+    on_ended Failed r after ends = rw ends.0 tt
 
     module _ (p : List ℕ) {next : RulesFile} {after : List ℕ} (read : rules_in_file next after ≡ fed rules_step (rules_in_file file left) p) where
       -- a piece without flaw
-      pub on_more : flaw_number next.rules.flaw ≡ 0 → length after ≡ length left → RulesOn list next after
+      pub on_more : is_some next.rules.flaw ≡ false → length after ≡ length left → RulesOn list next after
       on_more fine kept =
           record {
             pieces = before.pieces ++ (p ∷ []);
             long = kept ∙ before.long;
             on = λ qs.
-                let same : flawless (fed rules_step (rules_in_file file left) p).at.own.flaw ≡ true = ap (λ s. flawless s.at.own.flaw) (sym read) ∙ eq-eqb (flaw_number next.rules.flaw) 0 fine in
+                let same : is_none (fed rules_step (rules_in_file file left) p).at.own.flaw ≡ true = ap (λ s. is_none s.at.own.flaw) (sym read) ∙ ap not fine in
                 let rest : rules_pieces (rules_in_file file left) (p ∷ qs) ≡ rules_pieces (rules_in_file next after) qs
                 = ap (λ t. pick t (rules_pieces (fed rules_step (rules_in_file file left) p) qs) (rules_end (fed rules_step (rules_in_file file left) p))) same ∙ ap (λ s. rules_pieces s qs) (sym read) in
                 ap (rules_pieces (rules_in_file no_rules list)) (append_assoc before.pieces (p ∷ []) qs) ∙ before.on (p ∷ qs) ∙ rest;
           }
 
       -- a piece with one: nothing more is read
-      pub on_flawed : (flaw_number next.rules.flaw ≡ 0 → ⊥) → {rules : RulesSoFar} {last : List ℕ} → judged rules last ≡ rules_end (rules_in_file next after)
+      pub on_flawed : is_some next.rules.flaw ≡ true → {rules : RulesSoFar} {last : List ℕ} → judged rules last ≡ rules_end (rules_in_file next after)
           → RulesFrom list rules last
       on_flawed some {rules} {last} ends =
-          let same : flawless (fed rules_step (rules_in_file file left) p).at.own.flaw ≡ false = ap (λ s. flawless s.at.own.flaw) (sym read) ∙ ne_eqb (flaw_number next.rules.flaw) 0 some in
+          let same : is_none (fed rules_step (rules_in_file file left) p).at.own.flaw ≡ false = ap (λ s. is_none s.at.own.flaw) (sym read) ∙ ap not some in
           let stop : rules_pieces (rules_in_file file left) (p ∷ []) ≡ rules_end (rules_in_file next after)
           = ap (λ t. pick t (rules_pieces (fed rules_step (rules_in_file file left) p) []) (rules_end (fed rules_step (rules_in_file file left) p))) same ∙ ap rules_end (sym read) in
           record { pieces = before.pieces ++ (p ∷ []); are = ends ∙ sym (before.on (p ∷ []) ∙ stop) }
@@ -116,42 +104,44 @@ module _ (R : Rules) (T : List ℕ) where
   quiet_end s = ap (λ r. (headers_end R T r).headers) (said_front s) ∙ ap (λ y. y.headers) (end_front s.at.own.said (quiet s))
 
 -- ---- the bytes of one read
--- how many of those left a turn takes, whatever state it reads them from: one at least, and no more than there are
-pub part_taken : (bytes : List ℕ) (from used : ℕ) → from < length bytes → used ≤ length (take (length bytes - from) (drop from bytes))
-    → (0 < length (take (length bytes - from) (drop from bytes)) → 0 < used) → (0 < used) × (from + used ≤ length bytes)
-part_taken bytes from used more most some =
-    let size : length (take (length bytes - from) (drop from bytes)) ≡ length bytes - from = ap length (rest_is bytes from) ∙ length-drop from bytes in
-    let full : 0 < length (take (length bytes - from) (drop from bytes)) = omega arith in
-    (some full, omega arith)
-
-pub record TurnOn (R : Rules) (T : List ℕ) (f : HeadersFile) (bytes header : List ℕ) (n : ℕ) (present : HeadersFile) (left out : List ℕ) (from : ℕ) : Type 0 where
-  pub within : from ≤ length bytes
+-- a first part of them has been answered, and this is the rest
+pub record TurnOn (R : Rules) (T : List ℕ) (f : HeadersFile) (bytes header : List ℕ) (n : ℕ) (present : HeadersFile) (left out rest : List ℕ) : Type 0 where
+  pub done : List ℕ
+  pub cut : done ++ rest ≡ bytes
   pub long : length out ≡ n
-  pub state : headers_in_file present left [] ≡ quiet (headers_fed R T f header (take from bytes))
+  pub state : headers_in_file present left [] ≡ quiet (headers_fed R T f header done)
 
 module _ (R : Rules) (T : List ℕ) (f : HeadersFile) (bytes header : List ℕ) where
-  pub turn_start : (out : List ℕ) → TurnOn R T f bytes header (length out) f header out 0
-  turn_start out = record { within = omega arith; long = refl; state = refl }
+  pub turn_start : (out : List ℕ) → TurnOn R T f bytes header (length out) f header out bytes
+  turn_start out = record { done = []; cut = refl; long = refl; state = refl }
 
-  module _ {n : ℕ} {present : HeadersFile} {left out : List ℕ} {from : ℕ} (before : TurnOn R T f bytes header n present left out from) where
-    pub turn_all : length bytes ≤ from → TurnTook R T f bytes header (record { file = present; going = true }) left
-    turn_all all = record { used = from; state = before.state; all = λ goes. omega (arith, before.within) }
+  module _ {n : ℕ} {present : HeadersFile} {left out rest : List ℕ} (before : TurnOn R T f bytes header n present left out rest) where
+    pub turn_all : length rest ≡ 0 → TurnTook R T f bytes header (Some present) left
+    turn_all none =
+        let all : before.done ≡ bytes = sym (append-nil before.done) ∙ ap (λ r. before.done ++ r) (sym (nil_from_length rest none)) ∙ before.cut in
+        record { done = before.done; rest = rest; cut = before.cut; file = present; state = before.state; all = (refl, all) }
 
-    module _ (more : from < length bytes) {r : Progress} {left' after : List ℕ} (took : HeadersPiece R T present (take (length bytes - from) (drop from bytes)) left out r left' after) where
-      state_then : headers_in_file r.file left' [] ≡ quiet (headers_fed R T f header (take (from + r.used) bytes))
+    module _ {r : Progress} {left' after : List ℕ} (took : HeadersPiece R T present rest left out r left' after) where
+      abbrev part : List ℕ
+      part = take r.used rest
+
+      cut_then : (before.done ++ part) ++ drop r.used rest ≡ bytes
+      cut_then = append_assoc before.done part (drop r.used rest) ∙ ap (λ r. before.done ++ r) (take-append-drop r.used rest) ∙ before.cut
+
+      state_then : headers_in_file r.file left' [] ≡ quiet (headers_fed R T f header (before.done ++ part))
       state_then =
-          let part = take r.used (take (length bytes - from) (drop from bytes)) in
           ap quiet took.printed.reads
           ∙ ap (λ s. quiet (fed (headers_step R T) s part)) before.state
-          ∙ sym (quiet-fed R T (headers_fed R T f header (take from bytes)) part)
-          ∙ ap quiet (sym (fed_on (headers_step R T) (headers_in_file f header []) bytes from r.used))
+          ∙ sym (quiet-fed R T (headers_fed R T f header before.done) part)
+          ∙ ap quiet (sym (fed_append (headers_step R T) (headers_in_file f header []) before.done part))
 
-      pub turn_more : length after ≡ length out → TurnOn R T f bytes header n r.file left' after (from + r.used)
-      turn_more kept = record { within = (part_taken bytes from r.used more took.most took.some).1; long = kept ∙ before.long; state = state_then }
+      pub turn_more : length after ≡ length out → TurnOn R T f bytes header n r.file left' after (take (length rest - r.used) (drop r.used rest))
+      turn_more kept =
+          record { done = before.done ++ part; cut = ap (λ q. (before.done ++ part) ++ q) (rest_is rest r.used) ∙ cut_then; long = kept ∙ before.long; state = state_then }
 
       -- what they print can't be written
-      pub turn_some : TurnTook R T f bytes header (record { file = r.file; going = false }) left'
-      turn_some = record { used = from + r.used; state = state_then; all = λ goes. absurd (true-not-false goes refl) }
+      pub turn_some : TurnTook R T f bytes header None left'
+      turn_some = record { done = before.done ++ part; rest = drop r.used rest; cut = cut_then; file = r.file; state = state_then; all = tt }
 
 -- ---- the headers file's pieces
 flatten_more : (ps : List (List ℕ)) (p : List ℕ) → flatten ps ++ p ≡ flatten (ps ++ (p ∷ []))
@@ -184,23 +174,22 @@ module _ (R : Rules) (T header : List ℕ) where
     headers_lost (Stopped headers) ends = record { pieces = before.pieces; are = ends ∙ ap (λ s. s.at.own.headers) before.state }
     headers_lost NoHeaders ends = absurd ends
 
-    pub headers_ended : (got : Got) (r : HeadersRead) → HeadersEnded got R T file left r → HeadersReadFrom R T header r
-    headers_ended (Bytes k) r ends = headers_over r ends
+    pub headers_ended : (why : NoBytes) (r : HeadersRead) → HeadersEnded why R T file left r → HeadersReadFrom R T header r
     headers_ended End r ends = headers_over r ends
     headers_ended Folder r ends = headers_lost r ends
     headers_ended Failed r ends = headers_lost r ends
 
-    pub headers_more : (p : List ℕ) {r : Turn} {left' after : List ℕ} → TurnTook R T file p left r left' → r.going ≡ true → length after ≡ length out
-        → HeadersOn R T header n r.file left' after
+    pub headers_more : (p : List ℕ) {next : HeadersFile} {left' after : List ℕ} → TurnTook R T file p left (Some next) left' → length after ≡ length out
+        → HeadersOn R T header n next left' after
     unfolding flatten
-    headers_more p {r} {left'} {after} took goes kept =
-        let all : take took.used p ≡ p = take_all took.used p (omega (arith, took.all goes)) in
+    headers_more p {next} {left'} {after} took kept =
         record {
           pieces = before.pieces ++ (p ∷ []);
           long = kept ∙ before.long;
           state =
-              took.state
-              ∙ ap (λ bs. quiet (headers_fed R T file left bs)) all
+              ap (λ f. headers_in_file f left' []) took.all.0
+              ∙ took.state
+              ∙ ap (λ bs. quiet (headers_fed R T file left bs)) took.all.1
               ∙ ap (λ s. quiet (fed (headers_step R T) s p)) before.state
               ∙ sym (quiet-fed R T (headers_after R T header before.pieces) p)
               ∙ ap quiet (sym (fed_append (headers_step R T) (headers_in_file no_headers header []) (flatten before.pieces) p))

@@ -23,6 +23,7 @@ use native.Mathlib.Omega.{arith}
 use borrow.Author.Tests.{eq-eqb, ne_eqb, eqb-true, eqb-false}
 use lib.Dec.{eqb}
 use lib.ListN.{length}
+use Rattle.std.specs.Prelude.{Option, None, Some, is_none}
 use Rattle.ranges.specs.Numbers.{pick}
 use Rattle.lists.specs.Limits.{most_fields, most_numbers}
 use Rattle.lists.specs.Rules.{Rules, fields_of}
@@ -40,21 +41,23 @@ use Rattle.text.specs.Lines.{cells_of}
 use Rattle.text.specs.Judging.{Judged}
 use Rattle.rulesfile.specs.Faults.{reading_fault, rules_from, rules_fault}
 use Rattle.rulesfile.specs.Flaws.{file_flaw}
-use Rattle.flaws.specs.Numbered.{flaw_number}
+use Rattle.flaws.specs.Numbered.{flaw_number, number_of_flaw}
+use Rattle.flaws.specs.declared.flaw.Flaw.{Flaw}
 use Rattle.rulesfile.specs.Bytes.{no_rules, rules_in_file, rules_pieces}
 use Rattle.rulesfile.specs.Tabled.{tabled_flaw}
 use Rattle.rulesfile.specs.declared.file.RulesSoFar.{RulesSoFar}
+use Rattle.rulesfile.proofs.Flaws.{number_none}
 use Rattle.rulesfile.proofs.Ended.{TableStands}
 use Rattle.rulesfile.proofs.Theorems.{file_read, flaw_number_is}
 use Rattle.answers.specs.Said.{head_said, refused_said, looked_said}
-use Rattle.answers.specs.HeaderLines.{header_of, line_said, lines_said, refused_in, first_in, why_in}
+use Rattle.answers.specs.HeaderLines.{header_of, line_said, lines_said, refused_among}
 use Rattle.gateway.specs.HeaderBytes.{no_headers, headers_in_file}
 use Rattle.answers.specs.Counts.{headers_so_far, most_count}
 use Rattle.gateway.specs.Serving.{RulesFrom, HeadersFrom}
 use Rattle.gateway.specs.Program.{answers_said, program_of, pieces_said, served_by, served}
 use Rattle.answers.specs.declared.count.HeadersSoFar.{HeadersSoFar}
 use Rattle.answers.proofs.Counting.{counted_is}
-use Rattle.answers.proofs.Opening.{said_head, said_flaw}
+use Rattle.answers.specs.Opened.{opened_said}
 use Rattle.gateway.proofs.HeadersRead.{headers_read}
 use Rattle.gateway.proofs.Pieces.{pieces_whole}
 
@@ -71,27 +74,26 @@ few_fields ls none = (list_shaped (rules_from ls) (stands_checked ls none)).few_
 
 -- ---- what is printed
 module _ (y : Judged RulesSoFar) (ls : List (List ℕ)) (table : List ℕ) (stands : TableStands ls y table) (hps : List (List ℕ)) where
-  abbrev flaw' : ℕ
-  flaw' = flaw_number (tabled_flaw y.own y.run table)
-
-  number_is : flaw' ≡ rules_fault ls
-  number_is = ap flaw_number stands.flaw ∙ flaw_number_is ls
+  number_is : number_of_flaw (tabled_flaw y.own y.run table) ≡ rules_fault ls
+  number_is = ap number_of_flaw stands.flaw ∙ flaw_number_is ls
 
   -- a fault
   served-fault : (rules_fault ls ≡ 0 → ⊥) → served_by y table hps ≡ refused_said (rules_fault ls)
-  served-fault some =
-      let other : flaw' ≡ 0 → ⊥ = λ e. some (sym number_is ∙ e) in
-      rw (said_flaw (tabled_flaw y.own y.run table) other, ne_eqb flaw' 0 other, number_is) (append-nil (refused_said (rules_fault ls)))
+  served-fault some = go (tabled_flaw y.own y.run table) _ number_is
+    where
+      go : (f : Option Flaw) (answers : List ℕ) → number_of_flaw f ≡ rules_fault ls → opened_said f ++ pick (is_none f) answers [] ≡ refused_said (rules_fault ls)
+      go None answers n = absurd (some (sym n))
+      go (Some f) answers n = append-nil (refused_said (flaw_number f)) ∙ ap refused_said n
 
   -- rules that stand
   served_answers : rules_fault ls ≡ 0 → served_by y table hps ≡ answers_said (rules_from ls) (lines_of (flatten hps))
   served_answers none =
-      let fine : flaw' ≡ 0 = number_is ∙ none in
-      let fine' : flaw_number (file_flaw ls) ≡ 0 = flaw_number_is ls ∙ none in
+      let fine : tabled_flaw y.own y.run table ≡ None = number_none (tabled_flaw y.own y.run table) (number_is ∙ none) in
+      let fine' : file_flaw ls ≡ None = number_none (file_flaw ls) (flaw_number_is ls ∙ none) in
       let R = rules_from ls in
       let said : pieces_said R (built_table R) (headers_in_file no_headers zeros []) hps ≡ lines_said R (built_table R) (lines_of (flatten hps))
       = pieces_whole R (built_table R) hps (headers_in_file no_headers zeros []) ∙ ap (λ a. a.said) (headers_read R (built_table R) (few_fields ls none) (flatten hps)) in
-      rw (said_head (tabled_flaw y.own y.run table) fine, eq-eqb flaw' 0 fine, stands.list fine', stands.built fine') (ap (λ w. head_said ++ w) said)
+      rw (fine, stands.list fine', stands.built fine') (ap (λ w. head_said ++ w) said)
 
 -- whatever list and table hold at first, as long as they have room for the longest
 pub program_is : (list table : List ℕ) → length list ≡ most_numbers → length table ≡ most_table → (rps hps : List (List ℕ))
@@ -121,7 +123,7 @@ rules_flaw_is list table long size come =
 pub headers_flaws_are : (R : Rules) (T : List ℕ) → fields_of R ≤ most_fields → {headers : HeadersSoFar} → (come : HeadersFrom R T zeros headers)
     → length (lines_of (flatten come.pieces)) ≤ most_count
     → let ls = lines_of (flatten come.pieces) in
-    headers ≡ headers_so_far (length ls) (refused_in (fields_of R) ls) (first_in (fields_of R) 0 ls) (why_in (fields_of R) ls)
+    headers ≡ headers_so_far (length ls) (refused_among (fields_of R) 0 ls)
 headers_flaws_are R T few come many =
     come.are ∙ ap (λ a. a.headers) (headers_read R T few (flatten come.pieces)) ∙ counted_is (fields_of R) (lines_of (flatten come.pieces)) many
 

@@ -3,7 +3,7 @@
 -- to, and what has been printed. Each line is read by the reader of the crate text and answered at its end. That this comes
 -- to what `HeaderLines.antt` of the crate answers says of the file's lines is `headers_read` of `proofs/HeadersRead.antt`.
 -- Assumes nothing: these are definitions.
-use Rattle.std.specs.Prelude.{ℕ, ◌+◌, ◌≤◌, ◌<◌, List, [], ◌++◌, ◌≡◌, length, take}
+use Rattle.std.specs.Prelude.{ℕ, ◌+◌, ◌≤◌, ◌<◌, List, [], ◌++◌, ◌≡◌, length, take, Option}
 use Rattle.lists.specs.Rules.{Rules, fields_of}
 use Rattle.lists.specs.Headers.{zeros}
 use Rattle.text.specs.Cells.{fed}
@@ -34,7 +34,7 @@ answered h said = record { headers = h; said = said }
 
 -- ---- the file, with the header
 -- the flaw of a line that has ended
-abbrev pub flaw_here : Rules → Line → HeaderFlaw
+abbrev pub flaw_here : Rules → Line → Option HeaderFlaw
 flaw_here R l = header_flaw (fields_of R) l.feed l.row.bad l.row.cells
 
 -- a line's first number goes to place 0

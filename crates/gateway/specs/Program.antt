@@ -3,7 +3,7 @@
 -- `program_of` says it of the files' lines. `served` says it as the code goes: both files come in pieces, which the functions on slices
 -- take one after the other, and what each puts is written. That the two agree is `program_is` of `proofs/Theorems.antt`.
 -- Assumes nothing: these are definitions.
-use Rattle.std.specs.Prelude.{ℕ, List, [], ◌∷◌, ◌++◌, take, eqb}
+use Rattle.std.specs.Prelude.{ℕ, List, [], ◌∷◌, ◌++◌, take, eqb, is_none}
 use Rattle.ranges.specs.Numbers.{pick}
 use Rattle.lists.specs.Rules.{Rules}
 use Rattle.lists.specs.Headers.{zeros}
@@ -12,7 +12,6 @@ use Rattle.text.specs.Cells.{fed}
 use Rattle.text.specs.Files.{lines_of, InFile}
 use Rattle.text.specs.Judging.{Judged, Over}
 use Rattle.rulesfile.specs.Faults.{rules_from, rules_fault}
-use Rattle.rulesfile.specs.Flaws.{flawless}
 use Rattle.rulesfile.specs.Bytes.{no_rules, rules_in_file, rules_pieces}
 use Rattle.rulesfile.specs.Tabled.{list_read, room_read, tabled_flaw, tabled_after}
 use Rattle.rulesfile.specs.declared.file.RulesSoFar.{RulesSoFar}
@@ -42,7 +41,7 @@ pieces_said R T s (p ∷ ps) = (fed (headers_step R T) s p).at.own.said ++ piece
 abbrev pub served_by : Judged RulesSoFar → List ℕ → List (List ℕ) → List ℕ
 served_by y table headers =
     opened_said (tabled_flaw y.own y.run table)
-    ++ pick (flawless (tabled_flaw y.own y.run table))
+    ++ pick (is_none (tabled_flaw y.own y.run table))
     (pieces_said (list_read y.own y.run) (take (room_read y.own table) (tabled_after y.own y.run table)) (headers_in_file no_headers zeros []) headers)
     []
 

@@ -2,8 +2,8 @@
 -- What the functions that read, hand on and write leave. What a read brings is the system's: so their contracts say that there are
 -- pieces, one after the other, from which what they return comes.
 -- Assumes nothing: these are definitions.
-use Rattle.std.specs.Prelude.{ℕ, ◌≤◌, Bool, true, false, ◌≡◌, length, take}
-use mathlib.Core.List.{List, [], flatten}
+use Rattle.std.specs.Prelude.{ℕ, ◌≤◌, Bool, true, false, ◌≡◌, Option, None, Some, Result, IfOk, IfSome}
+use mathlib.Core.List.{List, [], ◌++◌, flatten}
 use Rattle.ranges.specs.Numbers.{same_list}
 use Rattle.lists.specs.Rules.{Rules}
 use Rattle.text.specs.Texts.{bytes}
@@ -14,13 +14,11 @@ use Rattle.rulesfile.specs.Bytes.{no_rules, rules_in_file, rules_end, rules_piec
 use Rattle.rulesfile.specs.declared.file.RulesSoFar.{RulesSoFar}
 use Rattle.rulesfile.specs.declared.file.RulesFile.{RulesFile}
 use Rattle.gateway.specs.HeaderBytes.{no_headers, Answered, answered, headers_in_file, headers_step, headers_fed, headers_end}
-use Rattle.gateway.specs.declared.input.Got.{Got}
-use Rattle.gateway.specs.declared.input.Got.TheVariants.{Bytes, End, Folder, Failed}
+use Rattle.gateway.specs.declared.input.NoBytes.{NoBytes}
+use Rattle.gateway.specs.declared.input.NoBytes.TheVariants.{End, Folder, Failed}
 use Rattle.gateway.specs.declared.read_rules.RulesRead.{RulesRead}
-use Rattle.gateway.specs.declared.read_rules.RulesRead.TheVariants.{Are as RulesAre, Failed as NoRules}
 use Rattle.answers.specs.declared.count.HeadersSoFar.{HeadersSoFar}
 use Rattle.gateway.specs.declared.headers.HeadersFile.{HeadersFile}
-use Rattle.gateway.specs.declared.answer_headers.Turn.{Turn}
 use Rattle.gateway.specs.declared.answer_headers.HeadersRead.{HeadersRead}
 use Rattle.gateway.specs.declared.answer_headers.HeadersRead.TheVariants.{Are as HeadersAre, Stopped, Failed as NoHeaders}
 
@@ -29,26 +27,21 @@ abbrev pub is_stdin : List ℕ → Bool
 is_stdin path = same_list path (bytes "-")
 
 -- what was read lies within n bytes
-abbrev pub Readied : Got → ℕ → Type 0
-Readied (Bytes k) n = k ≤ n
-Readied End n = Unit {0}
-Readied Folder n = Unit {0}
-Readied Failed n = Unit {0}
+abbrev pub Readied : Result ℕ NoBytes → ℕ → Type 0
+Readied got n = IfOk got (λ k. k ≤ n)
 
 -- ---- the rules
 -- the file has ended; said: what is wrong with it has been said
-abbrev pub RulesOver : RulesFile → List ℕ → Bool → RulesRead → List ℕ → Type 0
-RulesOver f list said (RulesAre rules told) after = (judged rules after ≡ rules_end (rules_in_file f list)) × (told ≡ said)
-RulesOver f list said NoRules after = ⊥
+abbrev pub RulesOver : RulesFile → List ℕ → Bool → Option RulesRead → List ℕ → Type 0
+RulesOver f list said None after = ⊥
+RulesOver f list said (Some r) after = (judged r.rules after ≡ rules_end (rules_in_file f list)) × (r.told ≡ said)
 
 -- it can't be read further
-abbrev pub RulesLost : List ℕ → RulesRead → List ℕ → Type 0
-RulesLost list (RulesAre rules told) after = ⊥
-RulesLost list NoRules after = after ≡ list
+abbrev pub RulesLost : List ℕ → Option RulesRead → List ℕ → Type 0
+RulesLost list r after = (r ≡ None) × (after ≡ list)
 
 -- either, by what the last read brought
-abbrev pub RulesEnded : Got → RulesFile → List ℕ → RulesRead → List ℕ → Type 0
-RulesEnded (Bytes k) f list = RulesOver f list false
+abbrev pub RulesEnded : NoBytes → RulesFile → List ℕ → Option RulesRead → List ℕ → Type 0
 RulesEnded End f list = RulesOver f list false
 RulesEnded Folder f list = RulesOver f list true
 RulesEnded Failed f list = RulesLost list
@@ -58,20 +51,22 @@ pub record RulesFrom (list : List ℕ) (rules : RulesSoFar) (after : List ℕ) :
   pub pieces : List (List ℕ)
   pub are : judged rules after ≡ rules_pieces (rules_in_file no_rules list) pieces
 
-abbrev pub RulesReadFrom : List ℕ → RulesRead → List ℕ → Type 0
-RulesReadFrom list (RulesAre rules told) after = RulesFrom list rules after
-RulesReadFrom list NoRules after = Unit {0}
+abbrev pub RulesReadFrom : List ℕ → Option RulesRead → List ℕ → Type 0
+RulesReadFrom list r after = IfSome r (λ read. RulesFrom list read.rules after)
 
 -- ---- the headers
 -- what has been printed is written, and forgotten
 abbrev pub quiet : InFile (Over Answered) → InFile (Over Answered)
 quiet s = in_file s.cr (over s.at.now (answered s.at.own.headers []))
 
--- bytes of one read have been answered, all where what they print was written
-pub record TurnTook (R : Rules) (T : List ℕ) (f : HeadersFile) (bytes header : List ℕ) (r : Turn) (left : List ℕ) : Type 0 where
-  pub used : ℕ
-  pub state : headers_in_file r.file left [] ≡ quiet (headers_fed R T f header (take used bytes))
-  pub all : r.going ≡ true → used ≡ length bytes
+-- a first part of the bytes of one read has been answered, all of them where what they print was written
+pub record TurnTook (R : Rules) (T : List ℕ) (f : HeadersFile) (bytes header : List ℕ) (r : Option HeadersFile) (left : List ℕ) : Type 0 where
+  pub done : List ℕ
+  pub rest : List ℕ
+  pub cut : done ++ rest ≡ bytes
+  pub file : HeadersFile
+  pub state : headers_in_file file left [] ≡ quiet (headers_fed R T f header done)
+  pub all : IfSome r (λ next. (next ≡ file) × (done ≡ bytes))
 
 -- the file has ended; whether the last answer is written is the system's to say
 abbrev pub HeadersOver : Rules → List ℕ → HeadersFile → List ℕ → HeadersRead → Type 0
@@ -86,8 +81,7 @@ HeadersLost f (Stopped headers) = headers ≡ f.headers
 HeadersLost f NoHeaders = ⊥
 
 -- either, by what the last read brought
-abbrev pub HeadersEnded : Got → Rules → List ℕ → HeadersFile → List ℕ → HeadersRead → Type 0
-HeadersEnded (Bytes k) R T f header = HeadersOver R T f header
+abbrev pub HeadersEnded : NoBytes → Rules → List ℕ → HeadersFile → List ℕ → HeadersRead → Type 0
 HeadersEnded End R T f header = HeadersOver R T f header
 HeadersEnded Folder R T f header = HeadersLost f
 HeadersEnded Failed R T f header = HeadersLost f

@@ -6,7 +6,7 @@ ghost use Rattle.rulesfile.specs.Tabled.{list_read, room_read};
 ghost use Rattle.gateway.specs.Serving.{TurnTook, HeadersOver, HeadersLost, HeadersEnded, HeadersReadFrom};
 
 use crate::headers::{HeadersFile, headers_end, headers_piece, headers_start};
-use crate::input::{Got, Source, open_input, read_some};
+use crate::input::{NoBytes, Source, open_input, read_some};
 use crate::output::write_out;
 use answers::count::HeadersSoFar;
 use lists::shape::Shape;
@@ -15,14 +15,7 @@ use rulesfile::file::RulesSoFar;
 use rulesfile::table::{rules_length, rules_room, rules_shape};
 use std::fs::{File, Files};
 
-// What is left after a piece: the headers, and whether what they printed was written.
-#[derive(Clone, Copy)]
-pub struct Turn {
-    pub file: HeadersFile,
-    pub going: bool,
-}
-
-// Answers the lines that a piece ends, and writes the answers.
+// Answers the lines that a piece ends, and writes the answers; none where they can't be written.
 fn answer_piece(
     streams: Streams,
     file: HeadersFile,
@@ -32,30 +25,24 @@ fn answer_piece(
     table: &[u16],
     header: &mut [u32; 8],
     out: &mut [u8],
-) -> Turn
+) -> Option<HeadersFile>
     requires { line_most ≤ length out.old }
     ensures { TurnTook (listed shape list.now) table.now file bytes.now header.old result header.new }
 {
     let mut present = file;
-    let mut from = 0;
-    while from < bytes.len() {
-        let next = headers_piece(present, &bytes[from..], shape, list, table, header, out);
+    let mut rest = bytes;
+    while !rest.is_empty() {
+        let next = headers_piece(present, rest, shape, list, table, header, out);
         present = next.file;
-        from += next.used;
+        rest = &rest[next.used..];
         if !write_out(streams, out, next.at) {
-            return Turn {
-                file: present,
-                going: false,
-            };
+            return None;
         }
     }
-    Turn {
-        file: present,
-        going: true,
-    }
+    Some(present)
 }
 
-// What reading the headers has come to.
+// What reading the headers has come to. (Three outcomes, which no `Option` or `Result` has.)
 #[derive(Clone, Copy)]
 pub enum HeadersRead {
     // All of the file's lines.
@@ -99,7 +86,7 @@ fn end_answers(
 // can't be read further or is a folder.
 fn end_headers(
     streams: Streams,
-    got: Got,
+    why: NoBytes,
     file: HeadersFile,
     shape: Shape,
     list: &[u32],
@@ -108,13 +95,12 @@ fn end_headers(
     out: &mut [u8],
 ) -> HeadersRead
     requires { line_most ≤ length out.old }
-    ensures { HeadersEnded got (listed shape list.now) table.now file header.old result }
+    ensures { HeadersEnded why (listed shape list.now) table.now file header.old result }
 {
-    match got {
-        Got::Bytes(n) => end_answers(streams, file, shape, list, table, header, out),
-        Got::End => end_answers(streams, file, shape, list, table, header, out),
-        Got::Folder => stopped_at(file),
-        Got::Failed => stopped_at(file),
+    match why {
+        NoBytes::End => end_answers(streams, file, shape, list, table, header, out),
+        NoBytes::Folder => stopped_at(file),
+        NoBytes::Failed => stopped_at(file),
     }
 }
 
@@ -135,18 +121,15 @@ fn headers_all(
 {
     let start = headers_start();
     let mut file = start;
-    let mut turns = u64::MAX;
-    while turns > 0 {
-        let got = read_some(streams, source, path, bytes);
-        let Got::Bytes(n) = got else {
-            return end_headers(streams, got, file, shape, list, table, header, out);
+    for _ in 0..u64::MAX {
+        let n = match read_some(streams, source, path, bytes) {
+            Ok(n) => n,
+            Err(why) => return end_headers(streams, why, file, shape, list, table, header, out),
         };
-        let turn = answer_piece(streams, file, &bytes[..n], shape, list, table, header, out);
-        if !turn.going {
-            return HeadersRead::Failed;
+        match answer_piece(streams, file, &bytes[..n], shape, list, table, header, out) {
+            Some(next) => file = next,
+            None => return HeadersRead::Failed,
         }
-        file = turn.file;
-        turns -= 1;
     }
     HeadersRead::Failed
 }

@@ -84,7 +84,8 @@ fn headers_line(
 }
 
 // Reads a piece of the file, cut anywhere, as long as there is room for another line of output, which goes to the front
-// of the run: of some bytes at least one.
+// of the run: of some bytes at least one. (No index loop: a turn takes the bytes of a line, and how many were taken is
+// answered.)
 pub(crate) fn headers_piece(
     file: HeadersFile,
     bytes: &[u8],

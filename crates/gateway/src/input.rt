@@ -9,7 +9,8 @@ use programs::bytes::same;
 use programs::output::say_error;
 use programs::streams::Streams;
 use std::fs::{File, Files};
-use std::io::{Error, ErrorKind, Read, Result};
+use std::io;
+use std::io::{Error, ErrorKind, Read};
 use std::str::from_utf8;
 
 // What a file is read from.
@@ -20,13 +21,14 @@ pub enum Source {
     Opened(File),
 }
 
-// What a read brought.
+// Why a read brought no bytes.
 #[derive(Clone, Copy)]
-pub enum Got {
-    Bytes(usize),
+pub enum NoBytes {
+    // The file has ended.
     End,
-    // A folder in place of a file.
+    // It is a folder, and that has been said.
     Folder,
+    // It can't be read, and that has been said.
     Failed,
 }
 
@@ -56,11 +58,9 @@ pub(crate) fn is_stdin(path: &[u8]) -> bool
 }
 
 // Opens a file to read, by its name; the library opens a file only where that is text in UTF-8.
-fn open_file(files: &impl Files<File = File>, path: &[u8]) -> Result<File> {
-    match from_utf8(path) {
-        Ok(name) => File::open(files, name),
-        Err(_) => Err(Error::from_raw_os_error(NO_TEXT)),
-    }
+fn open_file(files: &impl Files<File = File>, path: &[u8]) -> io::Result<File> {
+    let name = from_utf8(path).map_err(|_| Error::from_raw_os_error(NO_TEXT))?;
+    File::open(files, name)
 }
 
 // Opens a file to read, and answers what it is read from; where it can't be opened, says so.
@@ -84,7 +84,7 @@ pub(crate) fn open_input(
 }
 
 // Reads once from standard input or a file.
-fn read_source(streams: Streams, source: &mut Source, bytes: &mut [u8]) -> Result<usize>
+fn read_source(streams: Streams, source: &mut Source, bytes: &mut [u8]) -> io::Result<usize>
     ensures { ReadsAtMost result bytes.new }
 {
     match source {
@@ -96,20 +96,24 @@ fn read_source(streams: Streams, source: &mut Source, bytes: &mut [u8]) -> Resul
     }
 }
 
-// Reads a piece of a file: how many bytes came, or its end, or that it is a folder, or that it can't be read, and the
-// last two are said on standard error.
-pub(crate) fn read_some(streams: Streams, source: &mut Source, path: &[u8], bytes: &mut [u8]) -> Got
+// Reads a piece of a file: how many bytes came, at least one, or why none did.
+pub(crate) fn read_some(
+    streams: Streams,
+    source: &mut Source,
+    path: &[u8],
+    bytes: &mut [u8],
+) -> Result<usize, NoBytes>
     ensures { Readied result (length bytes.new) }
 {
     match read_source(streams, source, bytes) {
-        Ok(0) => Got::End,
-        Ok(n) => Got::Bytes(n),
+        Ok(0) => Err(NoBytes::End),
+        Ok(n) => Ok(n),
         Err(error) => {
             say_failed(streams, path, error);
             if error.kind() == ErrorKind::IsADirectory {
-                return Got::Folder;
+                return Err(NoBytes::Folder);
             }
-            Got::Failed
+            Err(NoBytes::Failed)
         }
     }
 }

@@ -104,10 +104,7 @@ fn misnamed(streams: Streams, what: &[u8], error: Error) -> Ended {
 fn names_twice(one: &[u8], other: &[u8]) -> bool
     ensures { result ≡ (is_stdin one.now and is_stdin other.now) }
 {
-    if is_stdin(one) {
-        return is_stdin(other);
-    }
-    false
+    is_stdin(one) && is_stdin(other)
 }
 
 // Does what the own words ask for.

@@ -1,62 +1,57 @@
 // The rules file, read piece by piece to its end or to its first flaw: read, hand on.
 ghost use Rattle.gateway.specs.Serving.{RulesEnded, RulesReadFrom};
 
-use crate::input::{Got, Source, open_input, read_some};
-use flaws::flaw::flaw_number;
+use crate::input::{NoBytes, Source, open_input, read_some};
 use programs::streams::Streams;
 use rulesfile::file::{RulesFile, RulesSoFar, rules_end, rules_piece, rules_start};
 use std::fs::{File, Files};
 
-// What reading the rules has come to.
+// The rules of a file, and whether what is wrong with it has been said: one that can't be opened or is a folder counts as
+// empty.
 #[derive(Clone, Copy)]
-pub enum RulesRead {
-    // The rules of the file, and whether what is wrong with it has been said: one that can't be opened or is a folder
-    // counts as empty.
-    Are(RulesSoFar, bool),
-    // The file can't be read further, and that has been said.
-    Failed,
+pub struct RulesRead {
+    pub rules: RulesSoFar,
+    pub told: bool,
 }
 
-// Ends the file, after a read that brought no bytes.
-fn end_rules(got: Got, file: RulesFile, list: &mut [u32]) -> RulesRead
-    ensures { RulesEnded got file list.old result list.new }
+// Ends the file, after a read that brought no bytes; none where it can't be read further.
+fn end_rules(why: NoBytes, file: RulesFile, list: &mut [u32]) -> Option<RulesRead>
+    ensures { RulesEnded why file list.old result list.new }
 {
-    match got {
-        Got::Bytes(n) => RulesRead::Are(rules_end(file, list), false),
-        Got::End => RulesRead::Are(rules_end(file, list), false),
-        Got::Folder => RulesRead::Are(rules_end(file, list), true),
-        Got::Failed => RulesRead::Failed,
-    }
+    let told = match why {
+        NoBytes::End => false,
+        NoBytes::Folder => true,
+        NoBytes::Failed => return None,
+    };
+    let rules = rules_end(file, list);
+    Some(RulesRead { rules, told })
 }
 
-// Reads the rules file to its end, or to its first flaw. A proved loop has to end, and nothing says that a file does: so
-// it counts its turns down, from a number that no run uses up.
+// Reads the rules file to its end, or to its first flaw; none where it can't be read further, and that has been said. A
+// proved loop has to end, and nothing says that a file does: so it has turns, as many as no run uses up.
 fn rules_all(
     streams: Streams,
     source: &mut Source,
     path: &[u8],
     bytes: &mut [u8],
     list: &mut [u32],
-) -> RulesRead
+) -> Option<RulesRead>
     ensures { RulesReadFrom list.old result list.new }
 {
     let start = rules_start();
     let mut file = start;
-    let mut turns = u64::MAX;
-    while turns > 0 {
-        let got = read_some(streams, source, path, bytes);
-        let Got::Bytes(n) = got else {
-            return end_rules(got, file, list);
+    for _ in 0..u64::MAX {
+        let n = match read_some(streams, source, path, bytes) {
+            Ok(n) => n,
+            Err(why) => return end_rules(why, file, list),
         };
         file = rules_piece(file, &bytes[..n], list);
-        let rules = file.rules;
-        let flaw = rules.flaw;
-        if flaw_number(flaw) != 0 {
-            return RulesRead::Are(rules_end(file, list), false);
+        if file.rules.flaw.is_some() {
+            let rules = rules_end(file, list);
+            return Some(RulesRead { rules, told: false });
         }
-        turns -= 1;
     }
-    RulesRead::Failed
+    None
 }
 
 // Reads the rules; a file that can't be opened counts as empty.
@@ -66,11 +61,12 @@ pub(crate) fn read_rules(
     path: &[u8],
     bytes: &mut [u8],
     list: &mut [u32],
-) -> RulesRead
+) -> Option<RulesRead>
     ensures { RulesReadFrom list.old result list.new }
 {
     let Some(mut source) = open_input(files, streams, path) else {
-        return RulesRead::Are(rules_end(rules_start(), list), true);
+        let rules = rules_end(rules_start(), list);
+        return Some(RulesRead { rules, told: true });
     };
     rules_all(streams, &mut source, path, bytes, list)
 }

@@ -1,6 +1,5 @@
 // The whole job on two files: the rules are read and their table is built, then each header is answered.
-ghost use Rattle.std.specs.Prelude.{◌≤◌, true, ◌≡◌, length};
-ghost use Rattle.flaws.specs.Numbered.{flaw_number};
+ghost use Rattle.std.specs.Prelude.{◌≤◌, true, ◌≡◌, length, None};
 ghost use Rattle.rulesfile.specs.Tabled.{tabled_flaw};
 ghost use Rattle.answers.specs.Said.{line_most};
 
@@ -10,7 +9,7 @@ use crate::read_rules::{RulesRead, read_rules};
 use answers::complain::put_headers_flaws;
 use answers::count::HeadersSoFar;
 use answers::open::open_rules;
-use flaws::flaw::{Flaw, flaw_number};
+use flaws::flaw::Flaw;
 use flaws::say::put_complaint;
 use programs::output::write_error;
 use programs::streams::Streams;
@@ -26,7 +25,7 @@ fn say_flaw(streams: Streams, flaw: Flaw, path: &[u8], out: &mut [u8]) {
 
 // Says on standard error which header lines were refused, where any was, for rules of d fields.
 fn say_refused(streams: Streams, headers: HeadersSoFar, d: usize, path: &[u8], out: &mut [u8]) {
-    if headers.refused == 0 {
+    if headers.refused.is_none() {
         return;
     }
     let at = put_headers_flaws(headers, d, path, out);
@@ -49,8 +48,7 @@ fn serve_headers(
     requires { line_most ≤ length out.old }
 {
     let shape = rules_shape(rules);
-    let read = answer_headers(files, streams, rules, path, bytes, list, table, header, out);
-    match read {
+    match answer_headers(files, streams, rules, path, bytes, list, table, header, out) {
         HeadersRead::Are(headers) => {
             say_refused(streams, headers, shape.d, path, out);
             true
@@ -68,8 +66,7 @@ fn serve_headers(
 fn serve_rules(
     files: &impl Files<File = File>,
     streams: Streams,
-    rules: RulesSoFar,
-    told: bool,
+    read: RulesRead,
     rules_path: &[u8],
     headers_path: &[u8],
     bytes: &mut [u8],
@@ -79,18 +76,17 @@ fn serve_rules(
     out: &mut [u8],
 ) -> bool
     requires { line_most ≤ length out.old }
-    ensures { result ≡ true → flaw_number (tabled_flaw rules list.now table.old) ≡ 0 }
+    ensures { result ≡ true → tabled_flaw read.rules list.now table.old ≡ None }
 {
-    let opened = open_rules(rules, list, table, out);
+    let opened = open_rules(read.rules, list, table, out);
     if !write_out(streams, out, opened.at) {
         return false;
     }
-    let flaw = opened.flaw;
-    if flaw_number(flaw) == 0 {
+    let Some(flaw) = opened.flaw else {
         return serve_headers(
             files,
             streams,
-            rules,
+            read.rules,
             headers_path,
             bytes,
             list,
@@ -98,8 +94,8 @@ fn serve_rules(
             header,
             out,
         );
-    }
-    if !told {
+    };
+    if !read.told {
         say_flaw(streams, flaw, rules_path, out);
     }
     false
@@ -119,21 +115,19 @@ pub(crate) fn serve_files(
 ) -> bool
     requires { line_most ≤ length out.old }
 {
-    let read = read_rules(files, streams, rules_path, bytes, list);
-    match read {
-        RulesRead::Are(rules, told) => serve_rules(
-            files,
-            streams,
-            rules,
-            told,
-            rules_path,
-            headers_path,
-            bytes,
-            list,
-            table,
-            header,
-            out,
-        ),
-        RulesRead::Failed => false,
-    }
+    let Some(read) = read_rules(files, streams, rules_path, bytes, list) else {
+        return false;
+    };
+    serve_rules(
+        files,
+        streams,
+        read,
+        rules_path,
+        headers_path,
+        bytes,
+        list,
+        table,
+        header,
+        out,
+    )
 }

@@ -1,10 +1,10 @@
 -- Laws of a line heard byte by byte (`specs/Lines.antt`).
---     line_within, line_here, line_past     the first LF
---     number_named                          one byte more of a number: the name has ended all the same
+--     line_within, line_empty, line_here, line_past     the first LF
+--     number_named                                      one byte more of a number: the name has ended all the same
 -- Assumes nothing.
 use Prim.Native.Nat.{ℕ, suc, ◌+◌, ◌≤◌}
 use mathlib.Core.Bool.{Bool, true, false, not}
-use mathlib.Core.List.{List, ◌∷◌}
+use mathlib.Core.List.{List, [], ◌∷◌}
 use mathlib.Core.Path.{◌≡◌, refl}
 use native.Mathlib.Omega.{arith}
 use lib.ListN.{length}
@@ -30,7 +30,10 @@ line_counts bs = length-prefix_len (λ b. not (eqb b 10)) bs
 pub line_within : (bs : List ℕ) → line_in bs ≤ length bs
 line_within bs = rw (line_counts bs) (prefix_len-le-length (λ b. not (eqb b 10)) bs)
 
--- at the first byte, or past it
+-- of no bytes, at the first byte, or past it
+pub line_empty : line_in [] ≡ 0
+line_empty = line_counts []
+
 pub line_here : (b : ℕ) (bs : List ℕ) → eqb b 10 ≡ true → line_in (b ∷ bs) ≡ 0
 line_here b bs e = rw (line_counts (b ∷ bs), e)
 

@@ -5,15 +5,15 @@
 --     rules-read                   the bytes of a file
 -- Assumes nothing.
 use Prim.Native.Nat.{ℕ, suc, ◌+◌, ◌*◌, ◌%◌, ◌≤◌, ◌<◌}
-use mathlib.Core.Bool.{Bool, true, false}
 use mathlib.Core.List.{List, [], ◌∷◌, ◌++◌, append_assoc, append-nil}
 use mathlib.Core.Path.{◌≡◌, refl, sym, ap, ◌∙◌, subst}
 use native.Mathlib.Omega.{arith}
 use native.Mathlib.Nat.{mul-le-mul}
-use borrow.Author.Tests.{ne_eqb, eqb-true, eqb-false}
+use borrow.Author.Tests.{ne_eqb}
 use lib.Dec.{eqb}
 use lib.ListN.{length, take, drop, length-append}
 use lib.Seq.{sets, sets-eq, length-sets, take_at, length-take-le}
+use Rattle.std.specs.Prelude.{Option, None, Some}
 use Rattle.ranges.specs.Numbers.{pick}
 use Rattle.lists.specs.Limits.{most_numbers, most_rules}
 use Rattle.text.specs.Cells.{fed}
@@ -25,12 +25,11 @@ use Rattle.text.proofs.Counted.{values_length}
 use Rattle.text.proofs.Judging.{judged_is}
 use Rattle.rulesfile.specs.Faults.{most_cells, width_of, list_of}
 use Rattle.rulesfile.specs.Flaws.{first_flaw, count_in, flaw_on, lines_flaw, reading_flaw}
-use Rattle.flaws.specs.Numbered.{flaw_number}
 use Rattle.rulesfile.specs.Bytes.{rules_so_far, no_rules, line_at, judge_rules, rules_in_file, rules_step, rules_end}
 use Rattle.flaws.specs.declared.flaw.Flaw.{Flaw}
-use Rattle.flaws.specs.declared.flaw.Flaw.TheVariants.{Nothing, NoLine}
+use Rattle.flaws.specs.declared.flaw.Flaw.TheVariants.{NoLine}
 use Rattle.rulesfile.specs.declared.file.RulesSoFar.{RulesSoFar}
-use Rattle.rulesfile.proofs.Flaws.{first_some, first-none, first_fine, number_some}
+use Rattle.rulesfile.proofs.Flaws.{first_fine}
 use Rattle.rulesfile.proofs.Numbers.{count_few, flaw_alike, first_narrow}
 use Rattle.rulesfile.proofs.Lined.{lines_stay, lines_long, cells_some, line_flawed, line_stands, line_even}
 
@@ -48,18 +47,18 @@ pub record Stood (ls : List (List ℕ)) (y : Judged RulesSoFar) : Type 0 where
   pub wide : 2 ≤ width_of ls
 
 -- what the file's end finds: that there is no line, where there is none
-abbrev pub end_flaw : RulesSoFar → Flaw
-end_flaw r = pick (eqb r.lines 0) NoLine Nothing
+abbrev pub end_flaw : RulesSoFar → Option Flaw
+end_flaw r = pick (eqb r.lines 0) (Some NoLine) None
 
 -- the first flaw, that of the file's end the last of them, and where there is none all numbers; the run keeps its length
 pub record Come (ls : List (List ℕ)) (y : Judged RulesSoFar) : Type 0 where
   pub flaw : first_flaw y.own.flaw (end_flaw y.own) ≡ reading_flaw ls
-  pub stood : flaw_number (reading_flaw ls) ≡ 0 → Stood ls y
+  pub stood : reading_flaw ls ≡ None → Stood ls y
   pub long : length y.run ≡ most_numbers
 
 -- lines without flaw leave none
-pub own_fine : {ls : List (List ℕ)} {y : Judged RulesSoFar} → Come ls y → flaw_number (reading_flaw ls) ≡ 0 → flaw_number y.own.flaw ≡ 0
-own_fine {ls} {y} at none = first_fine y.own.flaw (end_flaw y.own) (ap flaw_number at.flaw ∙ none)
+pub own_fine : {ls : List (List ℕ)} {y : Judged RulesSoFar} → Come ls y → reading_flaw ls ≡ None → y.own.flaw ≡ None
+own_fine {ls} {y} at none = first_fine y.own.flaw (end_flaw y.own) (at.flaw ∙ none)
 
 -- ---- the same of lines after i lines of w cells each, whose numbers are acc
 record StoodOn (w i : ℕ) (acc : List ℕ) (ls : List (List ℕ)) (y : Judged RulesSoFar) : Type 0 where
@@ -70,23 +69,23 @@ record StoodOn (w i : ℕ) (acc : List ℕ) (ls : List (List ℕ)) (y : Judged R
 
 record ComeOn (w i : ℕ) (acc : List ℕ) (ls : List (List ℕ)) (y : Judged RulesSoFar) : Type 0 where
   pub flaw : y.own.flaw ≡ lines_flaw i w ls
-  pub stood : flaw_number (lines_flaw i w ls) ≡ 0 → StoodOn w i acc ls y
+  pub stood : lines_flaw i w ls ≡ None → StoodOn w i acc ls y
 
 abbrev read_on : RulesSoFar → List ℕ → List (List ℕ) → Judged RulesSoFar
 read_on r run ls = judged_lines line_at judge_rules r run ls
 
 -- rules with a flaw
-come_flawed : (w i : ℕ) (acc l : List ℕ) (ls : List (List ℕ)) (y : Judged RulesSoFar) → (flaw_number y.own.flaw ≡ 0 → ⊥) → lines_flaw i w (l ∷ ls) ≡ y.own.flaw
+come_flawed : (w i : ℕ) (acc l : List ℕ) (ls : List (List ℕ)) (y : Judged RulesSoFar) {f : Flaw} → y.own.flaw ≡ Some f → lines_flaw i w (l ∷ ls) ≡ Some f
     → ComeOn w i acc (l ∷ ls) y
-come_flawed w i acc l ls y some is = record { flaw = sym is; stood = λ e. absurd (some (ap flaw_number (sym is) ∙ e)) }
+come_flawed w i acc l ls y some is = record { flaw = some ∙ sym is; stood = λ e. absurd (cc) }
 
 -- a line that stands, before lines that come to something
-come-fine : (w i : ℕ) (acc l : List ℕ) (ls : List (List ℕ)) (y : Judged RulesSoFar) → flaw_number (flaw_on i w l) ≡ 0
+come-fine : (w i : ℕ) (acc l : List ℕ) (ls : List (List ℕ)) (y : Judged RulesSoFar) → flaw_on i w l ≡ None
     → ComeOn w (i + 1) (acc ++ values_of (cells_of l)) ls y → ComeOn w i acc (l ∷ ls) y
-come-fine w i acc l ls y none rest = record { flaw = rest.flaw ∙ sym is; stood = λ e. stood (rest.stood (ap flaw_number (sym is) ∙ e)) }
+come-fine w i acc l ls y none rest = record { flaw = rest.flaw ∙ sym is; stood = λ e. stood (rest.stood (sym is ∙ e)) }
   where
     is : lines_flaw i w (l ∷ ls) ≡ lines_flaw (i + 1) w ls
-    is = first-none (flaw_on i w l) (lines_flaw (i + 1) w ls) none
+    is = rw none
 
     count : i + 1 + length ls ≡ i + suc (length ls)
     count = omega arith
@@ -104,29 +103,27 @@ come-fine w i acc l ls y none rest = record { flaw = rest.flaw ∙ sym is; stood
 -- a line after i lines, of which the state knows the width v; w is the first line's width
 module _ (w i v : ℕ) (acc l : List ℕ) (ls : List (List ℕ)) (list : List ℕ) (narrow : v ≤ most_cells) (same : flaw_on i w l ≡ flaw_on i v l) where
   abbrev line_on : Judged RulesSoFar
-  line_on = read_on (rules_so_far i v Nothing) list (l ∷ ls)
+  line_on = read_on (rules_so_far i v None) list (l ∷ ls)
 
   -- with a flaw
-  come-bad : (flaw_number (flaw_on i v l) ≡ 0 → ⊥) → ComeOn w i acc (l ∷ ls) line_on
-  come-bad some =
-      let f = flaw_on i v l in
+  come-bad : {f : Flaw} → flaw_on i v l ≡ Some f → ComeOn w i acc (l ∷ ls) line_on
+  come-bad {f} some =
       let left = (whole_line (i * v) list l).run in
-      let stays : line_on.own ≡ rules_so_far i v f
-      = ap (λ r. (read_on r left ls).own) (line_flawed i v l list some) ∙ lines_stay ls (rules_so_far i v f) left some in
-      let flaw : line_on.own.flaw ≡ f = ap (λ r. r.flaw) stays in
-      let first : lines_flaw i w (l ∷ ls) ≡ f = ap (λ g. first_flaw g (lines_flaw (i + 1) w ls)) same ∙ first_some f (lines_flaw (i + 1) w ls) some in
-      come_flawed w i acc l ls line_on (λ e. some (ap flaw_number (sym flaw) ∙ e)) (first ∙ sym flaw)
+      let stays : line_on.own ≡ rules_so_far i v (Some f)
+      = ap (λ r. (read_on r left ls).own) (line_flawed i v l list some) ∙ lines_stay ls (rules_so_far i v (Some f)) left refl in
+      let first : lines_flaw i w (l ∷ ls) ≡ Some f = ap (λ g. first_flaw g (lines_flaw (i + 1) w ls)) (same ∙ some) in
+      come_flawed w i acc l ls line_on (ap (λ r. r.flaw) stays) first
 
   -- without
-  come-good : flaw_number (flaw_on i v l) ≡ 0
-      → ComeOn w (i + 1) (acc ++ values_of (cells_of l)) ls (read_on (rules_so_far (i + 1) (length (cells_of l)) Nothing) (sets list (i * v) (values_of (cells_of l))) ls)
+  come-good : flaw_on i v l ≡ None
+      → ComeOn w (i + 1) (acc ++ values_of (cells_of l)) ls (read_on (rules_so_far (i + 1) (length (cells_of l)) None) (sets list (i * v) (values_of (cells_of l))) ls)
       → ComeOn w i acc (l ∷ ls) line_on
   come-good none rest =
       let stands = line_stands i v l list narrow none in
-      let goes : line_on ≡ read_on (rules_so_far (i + 1) (length (cells_of l)) Nothing) (sets list (i * v) (values_of (cells_of l))) ls
+      let goes : line_on ≡ read_on (rules_so_far (i + 1) (length (cells_of l)) None) (sets list (i * v) (values_of (cells_of l))) ls
       = ap (λ r. read_on r (whole_line (i * v) list l).run ls) stands.own
-      ∙ ap (λ run. read_on (rules_so_far (i + 1) (length (cells_of l)) Nothing) run ls) stands.after in
-      subst (ComeOn w i acc (l ∷ ls)) (sym goes) (come-fine w i acc l ls _ (ap flaw_number same ∙ none) rest)
+      ∙ ap (λ run. read_on (rules_so_far (i + 1) (length (cells_of l)) None) run ls) stands.after in
+      subst (ComeOn w i acc (l ∷ ls)) (sym goes) (come-fine w i acc l ls _ (same ∙ none) rest)
 
 -- a line's numbers stand after those of the i lines before it
 taken_line : (i w : ℕ) (list ns : List ℕ) → i < most_rules → w ≤ most_cells → length list ≡ most_numbers → length ns ≡ w
@@ -145,7 +142,7 @@ module _ (w : ℕ) (narrow : w ≤ most_cells) where
   -- what is to be shown of lines
   abbrev Claim : List (List ℕ) → Type 0
   Claim ls =
-      (i : ℕ) (list : List ℕ) → 1 ≤ i → i ≤ most_rules → length list ≡ most_numbers → ComeOn w i (take (i * w) list) ls (read_on (rules_so_far i w Nothing) list ls)
+      (i : ℕ) (list : List ℕ) → 1 ≤ i → i ≤ most_rules → length list ≡ most_numbers → ComeOn w i (take (i * w) list) ls (read_on (rules_so_far i w None) list ls)
 
   no_lines_lem : Claim []
   no_lines_lem i list some le size =
@@ -162,12 +159,11 @@ module _ (w : ℕ) (narrow : w ≤ most_cells) where
       }
 
   one_line : (l : List ℕ) (ls : List (List ℕ)) → Claim ls → Claim (l ∷ ls)
-  one_line l ls follow i list some le size = go (eqb (flaw_number (flaw_on i w l)) 0) refl
+  one_line l ls follow i list some le size = go (flaw_on i w l) refl
     where
-      go : (t : Bool) → eqb (flaw_number (flaw_on i w l)) 0 ≡ t → ComeOn w i (take (i * w) list) (l ∷ ls) (read_on (rules_so_far i w Nothing) list (l ∷ ls))
-      go false e = come-bad w i w (take (i * w) list) l ls list narrow refl (eqb-false (flaw_number (flaw_on i w l)) 0 e)
-      go true e =
-          let none = eqb-true (flaw_number (flaw_on i w l)) 0 e in
+      go : (f : Option Flaw) → flaw_on i w l ≡ f → ComeOn w i (take (i * w) list) (l ∷ ls) (read_on (rules_so_far i w None) list (l ∷ ls))
+      go (Some f) e = come-bad w i w (take (i * w) list) l ls list narrow refl e
+      go None none =
           let stands = line_stands i w l list narrow none in
           let few = stands.few in
           let same : length (cells_of l) ≡ w = stands.same (λ z. omega arith) in
@@ -177,8 +173,8 @@ module _ (w : ℕ) (narrow : w ≤ most_cells) where
           let taken = taken_line i w list ns few narrow size (values_length (cells_of l) ∙ same) in
           let rest = follow (i + 1) left (omega arith) (omega arith) kept in
           come-good w i w (take (i * w) list) l ls list narrow refl none
-          (subst (λ k. ComeOn w (i + 1) (take (i * w) list ++ ns) ls (read_on (rules_so_far (i + 1) k Nothing) left ls)) (sym same)
-          (subst (λ a. ComeOn w (i + 1) a ls (read_on (rules_so_far (i + 1) w Nothing) left ls)) taken rest))
+          (subst (λ k. ComeOn w (i + 1) (take (i * w) list ++ ns) ls (read_on (rules_so_far (i + 1) k None) left ls)) (sym same)
+          (subst (λ a. ComeOn w (i + 1) a ls (read_on (rules_so_far (i + 1) w None) left ls)) taken rest))
 
   later_lines : (ls : List (List ℕ)) → Claim ls
   later_lines [] = no_lines_lem
@@ -187,16 +183,15 @@ module _ (w : ℕ) (narrow : w ≤ most_cells) where
 -- ---- all lines
 -- the first line knows no width yet, and its own is the one of the others
 all_lines : (l : List ℕ) (ls : List (List ℕ)) (list : List ℕ) → length list ≡ most_numbers
-    → ComeOn (count_in l) 0 [] (l ∷ ls) (read_on (rules_so_far 0 0 Nothing) list (l ∷ ls))
-all_lines l ls list size = go (eqb (flaw_number (flaw_on 0 0 l)) 0) refl
+    → ComeOn (count_in l) 0 [] (l ∷ ls) (read_on (rules_so_far 0 0 None) list (l ∷ ls))
+all_lines l ls list size = go (flaw_on 0 0 l) refl
   where
     same : flaw_on 0 (count_in l) l ≡ flaw_on 0 0 l
     same = flaw_alike (count_in l) 0 l
 
-    go : (t : Bool) → eqb (flaw_number (flaw_on 0 0 l)) 0 ≡ t → ComeOn (count_in l) 0 [] (l ∷ ls) (read_on (rules_so_far 0 0 Nothing) list (l ∷ ls))
-    go false e = come-bad (count_in l) 0 0 [] l ls list (omega arith) same (eqb-false (flaw_number (flaw_on 0 0 l)) 0 e)
-    go true e =
-        let none = eqb-true (flaw_number (flaw_on 0 0 l)) 0 e in
+    go : (f : Option Flaw) → flaw_on 0 0 l ≡ f → ComeOn (count_in l) 0 [] (l ∷ ls) (read_on (rules_so_far 0 0 None) list (l ∷ ls))
+    go (Some f) e = come-bad (count_in l) 0 0 [] l ls list (omega arith) same e
+    go None none =
         let stands = line_stands 0 0 l list (omega arith) none in
         let w = length (cells_of l) in
         let ns = values_of (cells_of l) in
@@ -206,29 +201,24 @@ all_lines l ls list size = go (eqb (flaw_number (flaw_on 0 0 l)) 0) refl
         let taken : take (1 * w) left ≡ ns = rw none_yet at (taken_line 0 w list ns stands.few stands.short size (values_length (cells_of l))) in
         let rest = later_lines w stands.short ls 1 left (omega arith) (omega arith) kept in
         come-good (count_in l) 0 0 [] l ls list (omega arith) same none
-        (subst (λ k. ComeOn k 1 ns ls (read_on (rules_so_far 1 w Nothing) left ls)) (sym stands.count)
-        (subst (λ a. ComeOn w 1 a ls (read_on (rules_so_far 1 w Nothing) left ls)) taken rest))
+        (subst (λ k. ComeOn k 1 ns ls (read_on (rules_so_far 1 w None) left ls)) (sym stands.count)
+        (subst (λ a. ComeOn w 1 a ls (read_on (rules_so_far 1 w None) left ls)) taken rest))
 
 -- a file that has a line
 come_lines : (l : List ℕ) (ls : List (List ℕ)) (y : Judged RulesSoFar) → ComeOn (count_in l) 0 [] (l ∷ ls) y → length y.run ≡ most_numbers → Come (l ∷ ls) y
-come_lines l ls y on long = record { flaw = go (eqb (flaw_number found) 0) refl; stood = stood; long = long }
+come_lines l ls y on long = record { flaw = go found refl; stood = stood; long = long }
   where
-    found : Flaw
+    found : Option Flaw
     found = lines_flaw 0 (count_in l) (l ∷ ls)
 
-    go : (t : Bool) → eqb (flaw_number found) 0 ≡ t → first_flaw y.own.flaw (end_flaw y.own) ≡ found
-    go true e =
-        let none = eqb-true (flaw_number found) 0 e in
+    go : (f : Option Flaw) → found ≡ f → first_flaw y.own.flaw (end_flaw y.own) ≡ found
+    go None none =
         let lines = (on.stood none).lines in
         let some : y.own.lines ≡ 0 → ⊥ = λ z. omega arith in
-        first-none y.own.flaw (end_flaw y.own) (ap flaw_number on.flaw ∙ none)
-        ∙ ap (λ t. pick t NoLine Nothing) (ne_eqb y.own.lines 0 some)
-        ∙ sym (number_some found none)
-    go false e =
-        let some = eqb-false (flaw_number found) 0 e in
-        first_some y.own.flaw (end_flaw y.own) (λ z. some (ap flaw_number (sym on.flaw) ∙ z)) ∙ on.flaw
+        rw (on.flaw, none, ne_eqb y.own.lines 0 some)
+    go (Some f) some = rw (on.flaw, some)
 
-    stood : flaw_number found ≡ 0 → Stood (l ∷ ls) y
+    stood : found ≡ None → Stood (l ∷ ls) y
     stood none =
         let s = on.stood none in
         let fine = first_fine (flaw_on 0 (count_in l) l) (lines_flaw 1 (count_in l) ls) none in
@@ -255,14 +245,14 @@ come_lines l ls y on long = record { flaw = go (eqb (flaw_number found) 0) refl;
           wide = omega arith;
         }
 
-pub come : (ls : List (List ℕ)) (list : List ℕ) → length list ≡ most_numbers → Come ls (judged_lines line_at judge_rules (rules_so_far 0 0 Nothing) list ls)
-come [] list size = record { flaw = refl; stood = λ e. absurd (omega arith); long = size }
+pub come : (ls : List (List ℕ)) (list : List ℕ) → length list ≡ most_numbers → Come ls (judged_lines line_at judge_rules (rules_so_far 0 0 None) list ls)
+come [] list size = record { flaw = refl; stood = λ e. absurd (cc); long = size }
 come (l ∷ ls) list size =
-    come_lines l ls (read_on (rules_so_far 0 0 Nothing) list (l ∷ ls)) (all_lines l ls list size) (lines_long (l ∷ ls) (rules_so_far 0 0 Nothing) list ∙ size)
+    come_lines l ls (read_on (rules_so_far 0 0 None) list (l ∷ ls)) (all_lines l ls list size) (lines_long (l ∷ ls) (rules_so_far 0 0 None) list ∙ size)
 
 -- ---- the bytes of a file
 pub rules-read : (bytes list : List ℕ) → length list ≡ most_numbers → Come (lines_of bytes) (rules_end (fed rules_step (rules_in_file no_rules list) bytes))
 rules-read bytes list size =
     subst (λ x. Come (lines_of bytes) (judged x.own x.now.run))
-    (sym (judged_is line_at judge_rules bytes list (rules_so_far 0 0 Nothing)))
+    (sym (judged_is line_at judge_rules bytes list (rules_so_far 0 0 None)))
     (come (lines_of bytes) list size)

@@ -5,7 +5,11 @@
 -- Assumes nothing.
 use Prim.Native.Nat.{ℕ}
 use mathlib.Core.List.{List}
-use mathlib.Core.Path.{◌≡◌, sym, ap, ◌∙◌}
+use mathlib.Core.Path.{◌≡◌, refl, sym, ap, ◌∙◌}
+use Rattle.std.specs.Prelude.{⊤, Result, Ok, Err}
+use Rattle.std.specs.Result.{result_err}
+use Rattle.std.proofs.lemmas.Option.{none-some, same_Some}
+use Rattle.flaws.specs.declared.flaw.Flaw.{Flaw}
 use Rattle.ranges.proofs.OneAnswer.{OneAnswer, OneRun}
 use Rattle.text.specs.Judging.{judged}
 use Rattle.rulesfile.specs.Bytes.{rules_in_file}
@@ -41,6 +45,13 @@ module _ {r s : RulesSoFar} {list list' : List ℕ} (same : judged r list ≡ ju
   left_alike : list ≡ list'
   left_alike = ap (λ x. x.run) same
 
+-- what is built has no value but its flaw
+built_alike : (r s : Result ⊤ Flaw) → result_err r ≡ result_err s → r ≡ s
+built_alike (Ok x) (Ok y) same = refl
+built_alike (Ok x) (Err g) same = absurd (none-some g same)
+built_alike (Err f) (Ok y) same = absurd (none-some f (sym same))
+built_alike (Err f) (Err g) same = ap Err (same_Some f g same)
+
 -- ---- file
 pub rules_start_one : OneAnswer 0 rules_start_kinds.ps rules_start_kinds.r rules_start_reads.Learnt
 rules_start_one κs a x y e g p q = p ∙ sym q
@@ -69,7 +80,7 @@ pub rules_room_one : OneAnswer 1 rules_room_kinds.ps rules_room_kinds.r rules_ro
 rules_room_one κs a x y e g p q = p ∙ sym q
 
 pub rules_table_one : OneAnswer 2 rules_table_kinds.ps rules_table_kinds.r rules_table_reads.Learnt
-rules_table_one κs a x y e g p q = p.finds ∙ sym q.finds
+rules_table_one κs a x y e g p q = built_alike x y (p.finds ∙ sym q.finds)
 
 -- the run for the table afterwards is one too
 pub rules_table_run_one : OneRun 2 rules_table_kinds.ps rules_table_kinds.r rules_table_reads.Learnt (λ κs e. e.1.1.0.now)

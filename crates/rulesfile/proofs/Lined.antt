@@ -15,6 +15,7 @@ use borrow.Author.Tests.{eqb-true, eqb-false}
 use lib.Dec.{eqb}
 use lib.ListN.{length}
 use lib.Seq.{sets}
+use Rattle.std.specs.Prelude.{None, Some, is_none}
 use Rattle.ranges.specs.Numbers.{pick}
 use Rattle.lists.specs.Limits.{most_rules}
 use Rattle.text.specs.Rows.{in_front, all_numbers, values_of, bad_in, Reading, begin, read_cells}
@@ -23,20 +24,19 @@ use Rattle.text.specs.Judging.{judged_lines}
 use Rattle.text.proofs.Counted.{line_bad, bad-none, cells_count, cells_run, cells_long}
 use Rattle.rulesfile.specs.Faults.{most_cells}
 use Rattle.rulesfile.specs.Flaws.{line_flaw, count_in, flaw_on}
-use Rattle.flaws.specs.Numbered.{flaw_number}
 use Rattle.rulesfile.specs.Bytes.{rules_so_far, line_at, flaw_here, judged_by, judge_rules}
-use Rattle.flaws.specs.declared.flaw.Flaw.TheVariants.{Nothing}
+use Rattle.flaws.specs.declared.flaw.Flaw.{Flaw}
 use Rattle.rulesfile.specs.declared.file.RulesSoFar.{RulesSoFar}
 use Rattle.rulesfile.proofs.Flaws.{Fine, fine_line, even_first}
 use Rattle.rulesfile.proofs.Steps.{judged_kept, judged_flawed, judged-fine}
 use Rattle.rulesfile.proofs.Numbers.{count_few}
 
 -- ---- after a flaw
-pub lines_stay : (ls : List (List ℕ)) (r : RulesSoFar) (run : List ℕ) → (flaw_number r.flaw ≡ 0 → ⊥) → (judged_lines line_at judge_rules r run ls).own ≡ r
+pub lines_stay : (ls : List (List ℕ)) (r : RulesSoFar) (run : List ℕ) {f : Flaw} → r.flaw ≡ Some f → (judged_lines line_at judge_rules r run ls).own ≡ r
 lines_stay [] r run some = refl
 lines_stay (l ∷ ls) r run some =
     let line = whole_line (line_at r) run l in
-    ap (λ q. (judged_lines line_at judge_rules q line.run ls).own) (sym (judged_kept r line.line some)) ∙ lines_stay ls r line.run some
+    ap (λ q. (judged_lines line_at judge_rules q line.run ls).own) (judged_kept r line.line some) ∙ lines_stay ls r line.run some
 
 -- ---- the run
 pub lines_long : (ls : List (List ℕ)) (r : RulesSoFar) (run : List ℕ) → length (judged_lines line_at judge_rules r run ls).run ≡ length run
@@ -66,22 +66,23 @@ pub record LineStands (i w : ℕ) (l run : List ℕ) : Type 0 where
   pub count : count_in l ≡ length (cells_of l)
   pub short : length (cells_of l) ≤ most_cells
   pub same : (i ≡ 0 → ⊥) → length (cells_of l) ≡ w
-  pub own : judged_by (rules_so_far i w Nothing) (whole_line (i * w) run l).line ≡ rules_so_far (i + 1) (length (cells_of l)) Nothing
+  pub own : judged_by (rules_so_far i w None) (whole_line (i * w) run l).line ≡ rules_so_far (i + 1) (length (cells_of l)) None
   pub after : (whole_line (i * w) run l).run ≡ sets run (i * w) (values_of (cells_of l))
 
 module _ (i w : ℕ) (l run : List ℕ) where
   abbrev read_to : Reading
   read_to = read_cells (i * w) (begin run) (cells_of l)
 
-  flaw_is : flaw_on i w l ≡ flaw_here (rules_so_far i w Nothing) (whole_line (i * w) run l).line
+  -- the line's flaw as the code has it
+  flaw_is : flaw_here (rules_so_far i w None) (whole_line (i * w) run l).line ≡ flaw_on i w l
   flaw_is =
-      ap (λ k. line_flaw i w (feed_in l) k (count_in l)) (sym (line_bad (i * w) run (cells_of l)))
-      ∙ ap (line_flaw i w (feed_in l) read_to.row.bad) (sym (cells_count (i * w) (begin run) (cells_of l)))
+      ap (λ b. line_flaw i w (feed_in l) b read_to.row.cells) (line_bad (i * w) run (cells_of l))
+      ∙ ap (line_flaw i w (feed_in l) (bad_in 0 (cells_of l))) (cells_count (i * w) (begin run) (cells_of l))
 
-  pub line_flawed : (flaw_number (flaw_on i w l) ≡ 0 → ⊥) → judged_by (rules_so_far i w Nothing) (whole_line (i * w) run l).line ≡ rules_so_far i w (flaw_on i w l)
-  line_flawed some = sym (judged_flawed (rules_so_far i w Nothing) (whole_line (i * w) run l).line refl flaw_is some)
+  pub line_flawed : {f : Flaw} → flaw_on i w l ≡ Some f → judged_by (rules_so_far i w None) (whole_line (i * w) run l).line ≡ rules_so_far i w (Some f)
+  line_flawed flawed = judged_flawed (rules_so_far i w None) (whole_line (i * w) run l).line refl (flaw_is ∙ flawed)
 
-  module _ (narrow : w ≤ most_cells) (none : flaw_number (flaw_on i w l) ≡ 0) where
+  module _ (narrow : w ≤ most_cells) (none : flaw_on i w l ≡ None) where
     fine : Fine i w (bad_in 0 (cells_of l)) (count_in l)
     fine = fine_line i w (feed_in l) (bad_in 0 (cells_of l)) (count_in l) none
 
@@ -93,7 +94,7 @@ module _ (i w : ℕ) (l run : List ℕ) where
         go false e = let same = fine.later (eqb-false i 0 e) in omega arith
 
     numbers : all_numbers (cells_of l) ≡ true
-    numbers = sym (bad-none 0 (cells_of l)) ∙ ap (λ k. eqb k 0) fine.numbers
+    numbers = sym (bad-none 0 (cells_of l)) ∙ ap is_none fine.numbers
 
     pub line_stands : LineStands i w l run
     line_stands =
@@ -106,11 +107,11 @@ module _ (i w : ℕ) (l run : List ℕ) where
           short = short;
           same = λ later. sym count ∙ fine.later later;
           own =
-              sym (judged-fine (rules_so_far i w Nothing) (whole_line (i * w) run l).line refl flaw_is none)
-              ∙ ap (λ k. rules_so_far (i + 1) k Nothing) (cells_count (i * w) (begin run) (cells_of l) ∙ count);
+              judged-fine (rules_so_far i w None) (whole_line (i * w) run l).line refl (flaw_is ∙ none)
+              ∙ ap (λ k. rules_so_far (i + 1) k None) (cells_count (i * w) (begin run) (cells_of l) ∙ count);
           after = cells_run (cells_of l) (i * w) (begin run) numbers (omega arith) ∙ ap (λ k. sets run k (values_of (cells_of l))) place;
         }
 
 -- a first line without flaw has an even number of cells
-pub line_even : (w : ℕ) (l : List ℕ) → flaw_number (flaw_on 0 w l) ≡ 0 → count_in l % 2 ≡ 0
+pub line_even : (w : ℕ) (l : List ℕ) → flaw_on 0 w l ≡ None → count_in l % 2 ≡ 0
 line_even w l none = even_first w (feed_in l) (bad_in 0 (cells_of l)) (count_in l) none

@@ -15,49 +15,60 @@ use native.Mathlib.Omega.{arith}
 use borrow.Author.Tests.{eq-eqb, lt-ltb, eqb-true}
 use lib.Dec.{ltb, leb, eqb}
 use lib.ListN.{length}
+use Rattle.std.specs.Prelude.{Option, None, Some, is_none}
 use Rattle.ranges.specs.Numbers.{pick}
 use Rattle.lists.specs.Limits.{most_rules}
 use Rattle.text.specs.Rows.{all_numbers, exact_below, many_more, bad_in}
 use Rattle.text.specs.Lines.{cells_of, feed_in}
 use Rattle.text.proofs.Counted.{bad-none, many_either, many_same}
 use Rattle.rulesfile.specs.Faults.{first_fault, most_cells, width_fault, cells_fault, line_fault, lines_fault, reading_fault}
-use Rattle.rulesfile.specs.Flaws.{first_flaw, width_flaw, line_flaw, count_in, flaw_on, lines_flaw, reading_flaw}
-use Rattle.flaws.specs.Numbered.{flaw_number}
+use Rattle.rulesfile.specs.Flaws.{first_flaw, width_flaw, cells_flaw, line_flaw, count_in, flaw_on, lines_flaw, reading_flaw}
+use Rattle.flaws.specs.Numbered.{number_of_flaw}
 use Rattle.flaws.specs.declared.flaw.Flaw.{Flaw}
-use Rattle.flaws.specs.declared.flaw.Flaw.TheVariants.{Nothing, NotNumber, LoneFeed, OtherWidth, OddWidth, TooWide, TooManyRules}
-use Rattle.rulesfile.proofs.Flaws.{fine_line}
+use Rattle.flaws.specs.declared.flaw.Flaw.TheVariants.{NoLine, NotNumber, LoneFeed, OtherWidth, OddWidth, TooWide, TooManyRules, LowAboveHigh}
+use Rattle.rulesfile.proofs.Flaws.{number_none, fine_line}
 
 -- ---- the first of two
-pub first_number : (f g : Flaw) → flaw_number (first_flaw f g) ≡ first_fault (flaw_number f) (flaw_number g)
-first_number f g = go (eqb (flaw_number f) 0)
-  where
-    go : (t : Bool) → flaw_number (pick t g f) ≡ pick t (flaw_number g) (flaw_number f)
-    go true = refl
-    go false = refl
+pub first_number : (f g : Option Flaw) → number_of_flaw (first_flaw f g) ≡ first_fault (number_of_flaw f) (number_of_flaw g)
+first_number None g = refl
+first_number (Some NoLine) g = refl
+first_number (Some (NotNumber line cell)) g = refl
+first_number (Some LoneFeed) g = refl
+first_number (Some (OtherWidth line cells width)) g = refl
+first_number (Some (OddWidth cells)) g = refl
+first_number (Some (TooWide cells)) g = refl
+first_number (Some TooManyRules) g = refl
+first_number (Some (LowAboveHigh rule field low high)) g = refl
 
 -- ---- a line, of the counts as they are
-width_number : (k : ℕ) → flaw_number (width_flaw k) ≡ width_fault k
+width_number : (k : ℕ) → number_of_flaw (width_flaw k) ≡ width_fault k
 unfolding width_flaw width_fault
 width_number k = go (eqb (k % 2) 1) (ltb most_cells k)
   where
-    go : (s t : Bool) → flaw_number (pick s (OddWidth k) (pick t (TooWide k) Nothing)) ≡ pick s 8 (pick t 1 0)
+    go : (s t : Bool) → number_of_flaw (pick s (Some (OddWidth k)) (pick t (Some (TooWide k)) None)) ≡ pick s 8 (pick t 1 0)
     go true t = refl
     go false true = refl
     go false false = refl
 
-counts_number : (i w : ℕ) (feed : Bool) (bad k : ℕ) → flaw_number (line_flaw i w feed bad k) ≡ pick (leb most_rules i) 3 (cells_fault i w (eqb bad 0) k)
-unfolding line_flaw cells_fault
-counts_number i w feed bad k = go (leb most_rules i) (eqb bad 0) (eqb i 0) (eqb k w) feed
+cells_number : (i w : ℕ) (feed : Bool) (bad : Option ℕ) (k : ℕ) → number_of_flaw (cells_flaw i w feed bad k) ≡ cells_fault i w (is_none bad) k
+unfolding cells_fault
+cells_number i w feed None k = go (eqb i 0) (eqb k w)
   where
-    go : (m g z s u : Bool)
-        → flaw_number (pick m TooManyRules (pick g (pick z (width_flaw k) (pick s Nothing (OtherWidth (i + 1) k w))) (pick u LoneFeed (NotNumber (i + 1) bad))))
-        ≡ pick m 3 (pick g (pick z (width_fault k) (pick s 0 8)) 8)
-    go true g z s u = refl
-    go false true true s u = width_number k
-    go false true false true u = refl
-    go false true false false u = refl
-    go false false z s true = refl
-    go false false z s false = refl
+    go : (z s : Bool) → number_of_flaw (pick z (width_flaw k) (pick s None (Some (OtherWidth (i + 1) k w)))) ≡ pick z (width_fault k) (pick s 0 8)
+    go true s = width_number k
+    go false true = refl
+    go false false = refl
+cells_number i w true (Some bad) k = refl
+cells_number i w false (Some bad) k = refl
+
+counts_number : (i w : ℕ) (feed : Bool) (bad : Option ℕ) (k : ℕ)
+    → number_of_flaw (line_flaw i w feed bad k) ≡ pick (leb most_rules i) 3 (cells_fault i w (is_none bad) k)
+unfolding line_flaw
+counts_number i w feed bad k = go (leb most_rules i)
+  where
+    go : (m : Bool) → number_of_flaw (pick m (Some TooManyRules) (cells_flaw i w feed bad k)) ≡ pick m 3 (cells_fault i w (is_none bad) k)
+    go true = refl
+    go false = cells_number i w feed bad k
 
 -- ---- the count
 -- past `counted_to` it is even or odd as it should be, and too large either way
@@ -82,14 +93,14 @@ count_few l few =
     sym (eqb-true (length (cells_of l)) (count_in l) (sym (many_same (cells_of l) (count_in l) small) ∙ eq-eqb (count_in l) (count_in l) refl))
 
 -- ---- a line
-pub line_number : (i w : ℕ) (l : List ℕ) → w ≤ most_cells → flaw_number (flaw_on i w l) ≡ line_fault i w l
+pub line_number : (i w : ℕ) (l : List ℕ) → w ≤ most_cells → number_of_flaw (flaw_on i w l) ≡ line_fault i w l
 line_number i w l narrow =
     counts_number i w (feed_in l) (bad_in 0 (cells_of l)) (count_in l)
     ∙ ap (λ g. pick (leb most_rules i) 3 (cells_fault i w g (count_in l))) (bad-none 0 (cells_of l))
     ∙ ap (pick (leb most_rules i) 3) (fault-count i w (all_numbers (cells_of l)) (cells_of l) narrow)
 
 -- on the first line the width does not matter
-line_alike : (w v : ℕ) (feed : Bool) (bad k : ℕ) → line_flaw 0 w feed bad k ≡ line_flaw 0 v feed bad k
+line_alike : (w v : ℕ) (feed : Bool) (bad : Option ℕ) (k : ℕ) → line_flaw 0 w feed bad k ≡ line_flaw 0 v feed bad k
 unfolding line_flaw
 line_alike w v feed bad k = refl
 
@@ -100,39 +111,39 @@ fault-alike w v g k = refl
 pub flaw_alike : (w v : ℕ) (l : List ℕ) → flaw_on 0 w l ≡ flaw_on 0 v l
 flaw_alike w v l = line_alike w v (feed_in l) (bad_in 0 (cells_of l)) (count_in l)
 
-first_line : (w v : ℕ) (l : List ℕ) → flaw_number (flaw_on 0 w l) ≡ line_fault 0 v l
+first_line : (w v : ℕ) (l : List ℕ) → number_of_flaw (flaw_on 0 w l) ≡ line_fault 0 v l
 first_line w v l =
-    ap flaw_number (flaw_alike w 0 l)
+    ap number_of_flaw (flaw_alike w 0 l)
     ∙ line_number 0 0 l (omega arith)
     ∙ fault-alike 0 v (all_numbers (cells_of l)) (length (cells_of l))
 
 -- ---- lines
-later_number : (w : ℕ) → w ≤ most_cells → (ls : List (List ℕ)) (i : ℕ) → flaw_number (lines_flaw i w ls) ≡ lines_fault i w ls
+later_number : (w : ℕ) → w ≤ most_cells → (ls : List (List ℕ)) (i : ℕ) → number_of_flaw (lines_flaw i w ls) ≡ lines_fault i w ls
 later_number w narrow [] i = refl
 later_number w narrow (l ∷ ls) i =
     first_number (flaw_on i w l) (lines_flaw (i + 1) w ls)
-    ∙ ap (λ f. first_fault f (flaw_number (lines_flaw (i + 1) w ls))) (line_number i w l narrow)
+    ∙ ap (λ f. first_fault f (number_of_flaw (lines_flaw (i + 1) w ls))) (line_number i w l narrow)
     ∙ ap (first_fault (line_fault i w l)) (later_number w narrow ls (i + 1))
 
 -- a first line without flaw has at most 16 cells
-pub first_narrow : (w : ℕ) (l : List ℕ) → flaw_number (flaw_on 0 w l) ≡ 0 → count_in l ≤ most_cells
+pub first_narrow : (w : ℕ) (l : List ℕ) → flaw_on 0 w l ≡ None → count_in l ≤ most_cells
 first_narrow w l none = (fine_line 0 w (feed_in l) (bad_in 0 (cells_of l)) (count_in l) none).first refl
 
-pub lines_number : (l : List ℕ) (ls : List (List ℕ)) → flaw_number (lines_flaw 0 (count_in l) (l ∷ ls)) ≡ lines_fault 0 (length (cells_of l)) (l ∷ ls)
+pub lines_number : (l : List ℕ) (ls : List (List ℕ)) → number_of_flaw (lines_flaw 0 (count_in l) (l ∷ ls)) ≡ lines_fault 0 (length (cells_of l)) (l ∷ ls)
 lines_number l ls =
     first_number (flaw_on 0 (count_in l) l) (lines_flaw 1 (count_in l) ls)
-    ∙ ap (λ f. first_fault f (flaw_number (lines_flaw 1 (count_in l) ls))) (first_line (count_in l) (length (cells_of l)) l)
+    ∙ ap (λ f. first_fault f (number_of_flaw (lines_flaw 1 (count_in l) ls))) (first_line (count_in l) (length (cells_of l)) l)
     ∙ go (eqb (line_fault 0 (length (cells_of l)) l) 0) refl
   where
     go : (t : Bool) → eqb (line_fault 0 (length (cells_of l)) l) 0 ≡ t
-        → first_fault (line_fault 0 (length (cells_of l)) l) (flaw_number (lines_flaw 1 (count_in l) ls))
+        → first_fault (line_fault 0 (length (cells_of l)) l) (number_of_flaw (lines_flaw 1 (count_in l) ls))
         ≡ first_fault (line_fault 0 (length (cells_of l)) l) (lines_fault 1 (length (cells_of l)) ls)
     go true e =
         let none = eqb-true (line_fault 0 (length (cells_of l)) l) 0 e in
-        let narrow = first_narrow (count_in l) l (first_line (count_in l) (length (cells_of l)) l ∙ none) in
+        let narrow = first_narrow (count_in l) l (number_none (flaw_on 0 (count_in l) l) (first_line (count_in l) (length (cells_of l)) l ∙ none)) in
         ap (first_fault (line_fault 0 (length (cells_of l)) l)) (later_number (count_in l) narrow ls 1 ∙ ap (λ w. lines_fault 1 w ls) (count_few l narrow))
     go false e = rw e
 
-pub reading_number : (ls : List (List ℕ)) → flaw_number (reading_flaw ls) ≡ reading_fault ls
+pub reading_number : (ls : List (List ℕ)) → number_of_flaw (reading_flaw ls) ≡ reading_fault ls
 reading_number [] = refl
 reading_number (l ∷ ls) = lines_number l ls

@@ -10,9 +10,10 @@ use Prim.Native.Nat.{ℕ}
 use mathlib.Core.Bool.{Bool, true, false}
 use mathlib.Core.List.{List, [], ◌∷◌, flatten}
 use mathlib.Core.Path.{◌≡◌, refl, sym, ap, ◌∙◌, subst}
-use borrow.Author.Tests.{eqb-false}
 use lib.Dec.{eqb}
 use lib.ListN.{length}
+use Rattle.std.specs.Prelude.{Option, None, Some, is_none}
+use Rattle.std.proofs.lemmas.Option.{none-some}
 use Rattle.ranges.specs.Numbers.{pick}
 use Rattle.lists.specs.Limits.{most_numbers}
 use Rattle.text.specs.Cells.{fed}
@@ -23,21 +24,21 @@ use Rattle.text.proofs.Rows.{kept_long}
 use Rattle.text.proofs.Feeding.{fed_append}
 use Rattle.text.proofs.Keeping.{fed_keeps, finish_keeps}
 use Rattle.rulesfile.specs.Flaws.{first_flaw}
-use Rattle.flaws.specs.Numbered.{flaw_number}
+use Rattle.flaws.specs.declared.flaw.Flaw.{Flaw}
 use Rattle.rulesfile.specs.Bytes.{no_rules, line_at, judged_by, judge_rules, rules_in_file, rules_step, rules_end, rules_pieces}
 use Rattle.rulesfile.specs.declared.file.RulesSoFar.{RulesSoFar}
 use Rattle.rulesfile.proofs.Steps.{judged_kept}
 use Rattle.rulesfile.proofs.Come.{end_flaw, Come, Stood, own_fine, rules-read}
 
 -- ---- after a flaw
-module _ (r : RulesSoFar) (some : flaw_number r.flaw ≡ 0 → ⊥) where
+module _ (r : RulesSoFar) (f : Flaw) (some : r.flaw ≡ Some f) where
   abbrev Stays : Over RulesSoFar → Type 0
   Stays x = x.own ≡ r
 
   close_stays : (x : Over RulesSoFar) → Stays x → Stays (over_close line_at judge_rules x)
   close_stays x is =
       let line = (cell_ended (line_at x.own) x.now).line in
-      ap (λ q. judged_by q line) is ∙ sym (judged_kept r line some)
+      ap (λ q. judged_by q line) is ∙ judged_kept r line some
 
   bytes_stay : (bs : List ℕ) (s : InFile (Over RulesSoFar)) → Stays s.at → Stays (fed rules_step s bs).at
   bytes_stay = fed_keeps (over_byte line_at) (over_close line_at judge_rules) Stays (λ x b is. is) close_stays
@@ -45,16 +46,16 @@ module _ (r : RulesSoFar) (some : flaw_number r.flaw ≡ 0 → ⊥) where
   finish_stays : (s : InFile (Over RulesSoFar)) → Stays s.at → (rules_end s).own ≡ r
   finish_stays = finish_keeps (over_byte line_at) (over_close line_at judge_rules) Stays (λ x b is. is) close_stays over_begun
 
-module _ (s : InFile (Over RulesSoFar)) (some : flaw_number s.at.own.flaw ≡ 0 → ⊥) where
+module _ (s : InFile (Over RulesSoFar)) (f : Flaw) (some : s.at.own.flaw ≡ Some f) where
   pub bytes_kept : (bs : List ℕ) → (fed rules_step s bs).at.own ≡ s.at.own
-  bytes_kept bs = bytes_stay s.at.own some bs s refl
+  bytes_kept bs = bytes_stay s.at.own f some bs s refl
 
   pub end_kept : (rules_end s).own ≡ s.at.own
-  end_kept = finish_stays s.at.own some s refl
+  end_kept = finish_stays s.at.own f some s refl
 
   -- both
   pub rest_kept : (bs : List ℕ) → (rules_end (fed rules_step s bs)).own ≡ s.at.own
-  rest_kept bs = finish_stays s.at.own some (fed rules_step s bs) (bytes_kept bs)
+  rest_kept bs = finish_stays s.at.own f some (fed rules_step s bs) (bytes_kept bs)
 
 -- ---- the run
 module _ (n : ℕ) where
@@ -85,7 +86,7 @@ module _ (n : ℕ) where
   pub pieces_long : (ps : List (List ℕ)) (s : InFile (Over RulesSoFar)) → length s.at.now.run ≡ n → length (rules_pieces s ps).run ≡ n
   pieces_long [] s long = end_long s long
   pieces_long (p ∷ ps) s long =
-      go (eqb (flaw_number (fed rules_step s p).at.own.flaw) 0) (pieces_long ps (fed rules_step s p) (bytes_long p s long)) (end_long (fed rules_step s p) (bytes_long p s long))
+      go (is_none (fed rules_step s p).at.own.flaw) (pieces_long ps (fed rules_step s p) (bytes_long p s long)) (end_long (fed rules_step s p) (bytes_long p s long))
     where
       go : (t : Bool) → length (rules_pieces (fed rules_step s p) ps).run ≡ n → length (rules_end (fed rules_step s p)).run ≡ n
           → length (pick t (rules_pieces (fed rules_step s p) ps) (rules_end (fed rules_step s p))).run ≡ n
@@ -96,25 +97,24 @@ module _ (n : ℕ) where
 -- the same lines, width and flaw; and where there is no flaw the same run
 pub record Alike (x y : Judged RulesSoFar) : Type 0 where
   pub own : x.own ≡ y.own
-  pub run : flaw_number y.own.flaw ≡ 0 → x.run ≡ y.run
+  pub run : y.own.flaw ≡ None → x.run ≡ y.run
 
 pub pieces_alike : (ps : List (List ℕ)) (s : InFile (Over RulesSoFar)) → Alike (rules_pieces s ps) (rules_end (fed rules_step s (flatten ps)))
 unfolding flatten
 pieces_alike [] s = record { own = refl; run = λ e. refl }
 pieces_alike (p ∷ ps) s =
     subst (λ z. Alike (rules_pieces s (p ∷ ps)) (rules_end z)) (sym (fed_append rules_step s p (flatten ps)))
-    (go (eqb (flaw_number (fed rules_step s p).at.own.flaw) 0) refl (pieces_alike ps (fed rules_step s p)))
+    (go (fed rules_step s p).at.own.flaw refl (pieces_alike ps (fed rules_step s p)))
   where
-    go : (t : Bool) → eqb (flaw_number (fed rules_step s p).at.own.flaw) 0 ≡ t
+    go : (f : Option Flaw) → (fed rules_step s p).at.own.flaw ≡ f
         → Alike (rules_pieces (fed rules_step s p) ps) (rules_end (fed rules_step (fed rules_step s p) (flatten ps)))
-        → Alike (pick t (rules_pieces (fed rules_step s p) ps) (rules_end (fed rules_step s p))) (rules_end (fed rules_step (fed rules_step s p) (flatten ps)))
-    go true e on = on
-    go false e on =
-        let some = eqb-false (flaw_number (fed rules_step s p).at.own.flaw) 0 e in
-        let rest = rest_kept (fed rules_step s p) some (flatten ps) in
+        → Alike (pick (is_none f) (rules_pieces (fed rules_step s p) ps) (rules_end (fed rules_step s p))) (rules_end (fed rules_step (fed rules_step s p) (flatten ps)))
+    go None e on = on
+    go (Some f) some on =
+        let rest = rest_kept (fed rules_step s p) f some (flatten ps) in
         record {
-          own = end_kept (fed rules_step s p) some ∙ sym rest;
-          run = λ none. absurd (some (ap (λ r. flaw_number r.flaw) (sym rest) ∙ none));
+          own = end_kept (fed rules_step s p) f some ∙ sym rest;
+          run = λ none. absurd (none-some f (sym none ∙ ap (λ r. r.flaw) rest ∙ some));
         }
 
 -- what one comes to, the other does

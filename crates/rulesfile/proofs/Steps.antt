@@ -1,16 +1,17 @@
 -- Laws of the rules file byte by byte (`specs/Bytes.antt`), way by way.
 --     judged_kept, judged_flawed, judged-fine      the rules after a line
---     fine_few, fine_narrow                        a line without flaw leaves counts of 16 bits
+--     Few, fine_few                                a line without flaw leaves counts of 16 bits
 --     took_open, took_ends                         bytes to the end of the present line
 --     end_stays, end_judged                        the file's end
 -- Assumes nothing.
 use Prim.Native.Nat.{ℕ, ◌+◌, ◌<◌}
 use mathlib.Core.Bool.{Bool, true, false}
 use mathlib.Core.List.{List}
-use mathlib.Core.Path.{◌≡◌, refl, sym, ap, ◌∙◌}
+use mathlib.Core.Path.{◌≡◌, refl, ap, ◌∙◌}
 use native.Mathlib.Omega.{arith}
-use borrow.Author.Tests.{eq-eqb, ne_eqb, eqb-true, eqb-false}
+use borrow.Author.Tests.{eqb-true, eqb-false}
 use lib.Dec.{eqb}
+use Rattle.std.specs.Prelude.{None, Some}
 use Rattle.lists.specs.Limits.{most_rules}
 use Rattle.text.specs.Lines.{no_bytes, TookLine, TookLast}
 use Rattle.text.specs.Judging.{judged}
@@ -18,43 +19,41 @@ use Rattle.text.specs.declared.line.Line.{Line}
 use Rattle.text.specs.declared.line.Reader.{Reader}
 use Rattle.text.specs.declared.line.LineRead.{LineRead}
 use Rattle.text.proofs.Judging.{over_open, over_ends, over_stays, over_last}
-use Rattle.flaws.specs.Numbered.{flaw_number}
 use Rattle.rulesfile.specs.Bytes.{rules_so_far, line_at, flaw_here, judged_by, judge_rules, rules_in_file, rules_end, RulesTook}
 use Rattle.flaws.specs.declared.flaw.Flaw.{Flaw}
-use Rattle.flaws.specs.declared.flaw.Flaw.TheVariants.{Nothing}
 use Rattle.rulesfile.specs.declared.file.RulesSoFar.{RulesSoFar}
 use Rattle.rulesfile.specs.declared.file.RulesFile.{RulesFile}
 use Rattle.rulesfile.proofs.Flaws.{Fine, fine_line}
 
--- ---- the rules after a line; f is its flaw as the code has it
+-- ---- the rules after a line
 module _ (r : RulesSoFar) (l : Line) where
-  pub judged_kept : (flaw_number r.flaw ≡ 0 → ⊥) → r ≡ judged_by r l
+  pub judged_kept : {f : Flaw} → r.flaw ≡ Some f → judged_by r l ≡ r
   unfolding judged_by
-  judged_kept some = rw (ne_eqb (flaw_number r.flaw) 0 some)
+  judged_kept flawed = rw flawed
 
-  module _ (none : flaw_number r.flaw ≡ 0) {f : Flaw} (is : f ≡ flaw_here r l) where
-    pub judged_flawed : (flaw_number f ≡ 0 → ⊥) → rules_so_far r.lines r.width f ≡ judged_by r l
+  module _ (none : r.flaw ≡ None) where
+    pub judged_flawed : {f : Flaw} → flaw_here r l ≡ Some f → judged_by r l ≡ rules_so_far r.lines r.width (Some f)
     unfolding judged_by
-    judged_flawed some = rw (eq-eqb (flaw_number r.flaw) 0 none, ← is, ne_eqb (flaw_number f) 0 some)
+    judged_flawed flawed = rw (none, flawed)
 
-    module _ (fine : flaw_number f ≡ 0) where
-      pub judged-fine : rules_so_far (r.lines + 1) l.row.cells Nothing ≡ judged_by r l
-      unfolding judged_by
-      judged-fine = rw (eq-eqb (flaw_number r.flaw) 0 none, ← is, eq-eqb (flaw_number f) 0 fine)
+    pub judged-fine : flaw_here r l ≡ None → judged_by r l ≡ rules_so_far (r.lines + 1) l.row.cells None
+    unfolding judged_by
+    judged-fine fine = rw (none, fine)
 
-      fine-here : Fine r.lines r.width l.row.bad l.row.cells
-      fine-here = fine_line r.lines r.width l.feed l.row.bad l.row.cells (ap flaw_number (sym is) ∙ fine)
+-- a line without flaw leaves counts of 16 bits
+pub record Few (lines cells : ℕ) : Type 0 where
+  pub few : lines < most_rules
+  pub narrow : cells < 65536
 
-      -- so that both counts have 16 bits
-      pub fine_few : r.lines < most_rules
-      fine_few = fine-here.few
+pub fine_few : (r : RulesSoFar) (l : Line) → r.width < 65536 → flaw_here r l ≡ None → Few r.lines l.row.cells
+fine_few r l narrow fine = record { few = is.few; narrow = go (eqb r.lines 0) refl }
+  where
+    is : Fine r.lines r.width l.row.bad l.row.cells
+    is = fine_line r.lines r.width l.feed l.row.bad l.row.cells fine
 
-      pub fine_narrow : r.width < 65536 → l.row.cells < 65536
-      fine_narrow narrow = go (eqb r.lines 0) refl
-        where
-          go : (t : Bool) → eqb r.lines 0 ≡ t → l.row.cells < 65536
-          go true e = let few = fine-here.first (eqb-true r.lines 0 e) in omega arith
-          go false e = let same = fine-here.later (eqb-false r.lines 0 e) in omega arith
+    go : (t : Bool) → eqb r.lines 0 ≡ t → l.row.cells < 65536
+    go true e = let few = is.first (eqb-true r.lines 0 e) in omega arith
+    go false e = let same = is.later (eqb-false r.lines 0 e) in omega arith
 
 -- ---- bytes to the end of the present line
 module _ (f : RulesFile) (bytes list : List ℕ) {read : LineRead} {after : List ℕ} {from : ℕ} (is : from ≡ line_at f.rules) (took : TookLine from f.reader bytes list read after) where

@@ -1,29 +1,27 @@
 -- Laws of what becomes of the rules once their file has ended (`specs/Tabled.antt`).
 --     list_place, build_place                        the place of a build's refusal has few bits
---     offset_few, void_is                            the flaw of a rule
---     built_fine, built_refused                      what the build of a list finds
 --     built_list                                     in a run of the right length, that is what the list's check finds
---     tabled_flawed, tabled_no_line, tabled_built    the flaw of the rules and the run for the table, way by way
+--     flaw_built, after_built                        the flaw of rules that are built, and the run for the table
 --     after_long                                     a build leaves a run as long as it was
 -- Assumes nothing.
-use Prim.Native.Nat.{ℕ, ◌+◌, ◌/◌, ◌<◌}
+use Prim.Native.Nat.{ℕ, ◌/◌, ◌<◌}
 use mathlib.Core.Bool.{Bool, true, false}
 use mathlib.Core.List.{List, ◌++◌}
 use mathlib.Core.Path.{◌≡◌, refl, sym, ◌∙◌}
 use native.Mathlib.Omega.{arith}
-use borrow.Author.Tests.{eq-eqb, ne_eqb, eqb-true, ltb-true}
-use lib.ListN.{length, get_or, take, drop}
+use borrow.Author.Tests.{eq-eqb, ne_eqb, ltb-true}
+use lib.ListN.{length, take, drop}
 use lib.Dec.{ltb, eqb}
+use Rattle.std.specs.Prelude.{None, Ok, Err, IfErr}
 use Rattle.ranges.specs.Numbers.{pick, least}
-use Rattle.ranges.specs.Refusals.{none, refused, refused_at, stands, count_unless, BadFields, BadLength, TooManyRules, LowAboveHigh, BadTableLength}
+use Rattle.ranges.specs.Refusals.{Fault, none, refused, refused_at, or_else, unless, stands}
+use Rattle.ranges.specs.declared.refusal.Cause.TheVariants.{BadFields, BadLength, TooManyRules, LowAboveHigh, BadTableLength}
+use Rattle.ranges.proofs.InARow.{not-none}
 use Rattle.ranges.specs.declared.refusal.Refusal.{Refusal}
-use Rattle.ranges.specs.declared.refusal.Count.{Count}
-use Rattle.ranges.specs.declared.refusal.Count.TheVariants.{Is, Refused}
-use Rattle.ranges.proofs.Numbers.{never, least_le}
-use Rattle.lists.specs.Rules.{Rules, fields_of, rules_in, offset_of, low_of, high_of, is_void, shape_of, listed}
+use Rattle.ranges.proofs.Numbers.{least_le}
+use Rattle.lists.specs.Rules.{Rules, fields_of, rules_in, is_void, shape_of}
 use Rattle.lists.specs.declared.shape.Shape.{Shape}
 use Rattle.lists.specs.Faults.{bad_fields, bad_length, too_many_rules, shape_fault, bad_rule, ends_fault, list_fault}
-use Rattle.lists.proofs.Rules.{square_few}
 use Rattle.lists.proofs.Faults.{shaped}
 use Rattle.tables.specs.Layout.{table_length}
 use Rattle.sorting.specs.FirstFit.{first_fit}
@@ -31,125 +29,91 @@ use Rattle.sorting.specs.Table.{built_table}
 use Rattle.sorting.specs.Build.{build_fault, built_parts, build_of, table_after}
 use Rattle.sorting.proofs.Sorted.Reading.{table_sized}
 use Rattle.sorting.proofs.Answering.BuildFaults.{buildable}
-use Rattle.rulesfile.specs.Flaws.{flaw_at, list_flaw}
-use Rattle.flaws.specs.Numbered.{flaw_number}
-use Rattle.rulesfile.specs.Tabled.{length_read, room_read, built_flaw, tabled_flaw, tabled_after, Tabled}
-use Rattle.flaws.specs.declared.flaw.Flaw.{Flaw}
-use Rattle.flaws.specs.declared.flaw.Flaw.TheVariants.{Nothing, NoLine, LowAboveHigh as LowAbove}
+use Rattle.rulesfile.specs.Flaws.{refused_flaw, list_flaw}
+use Rattle.rulesfile.specs.Tabled.{list_read, room_read, tabled_flaw, tabled_after}
 use Rattle.rulesfile.specs.declared.file.RulesSoFar.{RulesSoFar}
 
 -- ---- a refusal's place has few bits
 abbrev Near : Refusal → Type 0
 Near x = (x.at < 65536) × (x.then < 65536)
 
-shape_place : (R : Rules) → Near (shape_fault R)
+shape_place : (R : Rules) → IfErr (shape_fault R) Near
 unfolding shape_fault
 shape_place R = go (bad_fields R) (bad_length R) (too_many_rules R)
   where
-    go : (a e g : Bool) → Near (pick a (refused BadFields) (pick e (refused BadLength) (pick g (refused TooManyRules) none)))
+    go : (a e g : Bool) → IfErr (pick a (refused BadFields) (pick e (refused BadLength) (pick g (refused TooManyRules) none))) Near
     go true e g = (omega arith, omega arith)
     go false true g = (omega arith, omega arith)
     go false false true = (omega arith, omega arith)
-    go false false false = (omega arith, omega arith)
+    go false false false = tt
 
-ends_place : (R : Rules) → (shape_fault R).number ≡ 0 → Near (ends_fault R)
+ends_place : (R : Rules) → shape_fault R ≡ none → IfErr (ends_fault R) Near
 unfolding ends_fault
 ends_place R fine = go (ltb (bad_rule R) (rules_in R)) refl
   where
-    go : (t : Bool) → ltb (bad_rule R) (rules_in R) ≡ t → Near (pick t (refused_at LowAboveHigh (bad_rule R) (least (fields_of R) (is_void R (bad_rule R)))) none)
+    go : (t : Bool) → ltb (bad_rule R) (rules_in R) ≡ t → IfErr (pick t (refused_at LowAboveHigh (bad_rule R) (least (fields_of R) (is_void R (bad_rule R)))) none) Near
     go true e =
         let shape = shaped R fine in
         let rule = ltb-true (bad_rule R) (rules_in R) e in
         let field = least_le (is_void R (bad_rule R)) (fields_of R) in
         (omega (arith, shape.few_rules), omega (arith, shape.few_fields))
-    go false e = (omega arith, omega arith)
+    go false e = tt
 
-list_place : (R : Rules) → Near (list_fault R)
-list_place R = go (stands (shape_fault R)) refl
+list_place : (R : Rules) → IfErr (list_fault R) Near
+list_place R = go (shape_fault R) refl (shape_place R)
   where
-    go : (t : Bool) → stands (shape_fault R) ≡ t → Near (pick t (ends_fault R) (shape_fault R))
-    go true e = ends_place R (eqb-true (shape_fault R).number 0 e)
-    go false e = shape_place R
+    go : (f : Fault) → shape_fault R ≡ f → IfErr f Near → IfErr (or_else f (ends_fault R)) Near
+    go (Ok u) e near = ends_place R e
+    go (Err x) e near = near
 
-fault_place : (R : Rules) (T : List ℕ) → Near (build_fault R T)
+fault_place : (R : Rules) (T : List ℕ) → IfErr (build_fault R T) Near
 unfolding build_fault
-fault_place R T = go (stands (list_fault R)) (eqb (length T) (table_length (rules_in R) (fields_of R)))
+fault_place R T = go (list_fault R) (eqb (length T) (table_length (rules_in R) (fields_of R))) (list_place R)
   where
-    go : (s t : Bool) → Near (pick s (pick t none (refused BadTableLength)) (list_fault R))
-    go true true = (omega arith, omega arith)
-    go true false = (omega arith, omega arith)
-    go false t = list_place R
+    go : (f : Fault) (t : Bool) → IfErr f Near → IfErr (or_else f (pick t none (refused BadTableLength))) Near
+    go (Ok u) true near = tt
+    go (Ok u) false near = (omega arith, omega arith)
+    go (Err x) t near = near
 
 -- the refusal of a build as the code has it
-pub build_place : (R : Rules) (T : List ℕ) {x : Refusal} {answer : Count} → answer ≡ Refused x → answer ≡ build_of R T → Near x
-build_place R T {x} is built = go (stands (build_fault R T)) (sym is ∙ built)
+pub build_place : (R : Rules) (T : List ℕ) {x : Refusal} → Err x ≡ build_of R T → Near x
+build_place R T {x} built = go (build_fault R T) (fault_place R T) built
   where
-    go : (t : Bool) → Refused x ≡ pick t (Is (built_parts R)) (Refused (build_fault R T)) → Near x
-    go true e = never (cc)
-    go false e = let same : x ≡ build_fault R T = cc in rw same (fault_place R T)
-
--- ---- the flaw of a rule
-pub offset_few : (d i f : ℕ) {at : ℕ} → at ≡ offset_of d i f → d < 65536 → i < 65536 → f < 65536 → at < 8590065664
-unfolding offset_of
-offset_few d i f is few-d few-i few-f = omega (arith, is, square_few d i (omega arith) (omega arith))
-
-pub void_is : (s : Shape) (list : List ℕ) (x : Refusal) {at low high : ℕ} → at ≡ offset_of s.d x.at x.then → low ≡ get_or list at 0 → high ≡ get_or list (at + 1) 0
-    → LowAbove x.at x.then low high ≡ flaw_at (listed s list) x
-unfolding low_of high_of
-void_is s list x is low high = rw (low, high, is)
+    go : (f : Fault) → IfErr f Near → Err x ≡ unless f (built_parts R) → Near x
+    go (Ok u) near e = absurd (not-none e)
+    go (Err y) near e = let same : x ≡ y = cc in rw same near
 
 -- ---- what the build of a list finds
-pub built_fine : (R : Rules) (T : List ℕ) {b : ℕ} {answer : Count} → answer ≡ Is b → answer ≡ build_of R T → Nothing ≡ built_flaw R (build_of R T)
-built_fine R T is built = rw (← built, is)
-
-pub built_refused : (R : Rules) (T : List ℕ) {x : Refusal} {answer : Count} {flaw : Flaw} → answer ≡ Refused x → answer ≡ build_of R T → flaw ≡ flaw_at R x
-    → flaw ≡ built_flaw R (build_of R T)
-built_refused R T is built flaw = rw (← built, is) flaw
-
 -- the list's check comes first, and a run of the right length is not refused
-pub built_list : (R : Rules) (T : List ℕ) → length T ≡ table_length (rules_in R) (fields_of R) → built_flaw R (build_of R T) ≡ list_flaw R
+pub built_list : (R : Rules) (T : List ℕ) → length T ≡ table_length (rules_in R) (fields_of R) → refused_flaw R (build_of R T) ≡ list_flaw R
 unfolding build_fault
-built_list R T size = rw (eq-eqb (length T) (table_length (rules_in R) (fields_of R)) size) (go (stands (list_fault R)) refl)
+built_list R T size = rw (eq-eqb (length T) (table_length (rules_in R) (fields_of R)) size) (go (list_fault R))
   where
-    go : (t : Bool) → stands (list_fault R) ≡ t
-        → built_flaw R (count_unless (pick t none (list_fault R)) (built_parts R)) ≡ pick t Nothing (flaw_at R (list_fault R))
-    go true e = refl
-    go false e = rw e
+    go : (f : Fault) → refused_flaw R (unless (or_else f none) (built_parts R)) ≡ refused_flaw R f
+    go (Ok u) = refl
+    go (Err x) = refl
 
 -- ---- the rules
 pub shape_few : (r : RulesSoFar) {s : Shape} → s ≡ shape_of (r.width / 2) → r.width < 65536 → s.d < 65536
 shape_few r is few = rw is (omega arith)
 
-module _ (r : RulesSoFar) (list table : List ℕ) where
-  pub tabled_flawed : (flaw_number r.flaw ≡ 0 → ⊥) → Tabled r list table r.flaw table
-  unfolding tabled_flaw tabled_after
-  tabled_flawed some = record { finds = rw (ne_eqb (flaw_number r.flaw) 0 some); leaves = rw (ne_eqb (flaw_number r.flaw) 0 some) }
+-- rules without flaw, of which there are some
+module _ (r : RulesSoFar) (list table : List ℕ) (fine : r.flaw ≡ None) (some : r.lines ≡ 0 → ⊥) where
+  abbrev front : List ℕ
+  front = take (room_read r table) table
 
-  module _ (fine : flaw_number r.flaw ≡ 0) where
-    pub tabled_no_line : r.lines ≡ 0 → Tabled r list table NoLine table
-    unfolding tabled_flaw tabled_after
-    tabled_no_line none =
-        record {
-          finds = rw (eq-eqb (flaw_number r.flaw) 0 fine, eq-eqb r.lines 0 none);
-          leaves = rw (eq-eqb (flaw_number r.flaw) 0 fine, eq-eqb r.lines 0 none);
-        }
+  pub flaw_built : tabled_flaw r list table ≡ refused_flaw (list_read r list) (build_of (list_read r list) front)
+  unfolding tabled_flaw
+  flaw_built = rw (fine, ne_eqb r.lines 0 some)
 
-    -- as the code has it: k numbers of the list and t of the run, and the shape s
-    pub tabled_built : (r.lines ≡ 0 → ⊥) → {k t : ℕ} {s : Shape} → k ≡ length_read r list → t ≡ room_read r table → s ≡ shape_of (r.width / 2) → {flaw : Flaw} {after : List ℕ}
-        → (flaw ≡ built_flaw (listed s (take k list)) (build_of (listed s (take k list)) (take t table))) × (after ≡ table_after (listed s (take k list)) (take t table))
-        → Tabled r list table flaw (after ++ drop t table)
-    unfolding tabled_flaw tabled_after
-    tabled_built some count room shape both =
-        let built = rw shape at both in
-        record {
-          finds = rw (eq-eqb (flaw_number r.flaw) 0 fine, ne_eqb r.lines 0 some, ← count, ← room) built.0;
-          leaves = rw (eq-eqb (flaw_number r.flaw) 0 fine, ne_eqb r.lines 0 some, ← count, ← room, built.1);
-        }
+  pub after_built : tabled_after r list table ≡ table_after (list_read r list) front ++ drop (room_read r table) table
+  unfolding tabled_after
+  after_built = rw (fine, ne_eqb r.lines 0 some)
 
 -- ---- the run keeps its length
 pub after_long : (R : Rules) (T : List ℕ) → length (table_after R T) ≡ length T
-after_long R T = go (stands (build_fault R T)) refl
+after_long R T = go (build_fault R T) refl
   where
-    go : (t : Bool) → stands (build_fault R T) ≡ t → length (pick t (built_table R) T) ≡ length T
-    go true e = (table_sized R (first_fit R (rules_in R))).long ∙ sym (buildable R T (eqb-true (build_fault R T).number 0 e)).sized.long
-    go false e = refl
+    go : (f : Fault) → build_fault R T ≡ f → length (pick (stands f) (built_table R) T) ≡ length T
+    go (Ok u) e = (table_sized R (first_fit R (rules_in R))).long ∙ sym (buildable R T e).sized.long
+    go (Err x) e = refl

@@ -21,7 +21,7 @@ use Rattle.text.specs.Files.{lines_of}
 use Rattle.text.specs.Judging.{Judged}
 use Rattle.rulesfile.specs.Faults.{rules_fault}
 use Rattle.rulesfile.specs.Flaws.{file_flaw}
-use Rattle.flaws.specs.Numbered.{flaw_number}
+use Rattle.flaws.specs.Numbered.{number_of_flaw}
 use Rattle.rulesfile.specs.Bytes.{no_rules, rules_in_file, rules_step, rules_end, rules_pieces}
 use Rattle.rulesfile.specs.declared.file.RulesSoFar.{RulesSoFar}
 use Rattle.rulesfile.proofs.Come as come
@@ -41,7 +41,7 @@ pieces_read = pieces.pieces_read
 
 -- ---- refusing
 -- whoever is told a flaw is told of what 01 refuses, and of nothing else
-pub flaw_number_is : (ls : List (List ℕ)) → flaw_number (file_flaw ls) ≡ rules_fault ls
+pub flaw_number_is : (ls : List (List ℕ)) → number_of_flaw (file_flaw ls) ≡ rules_fault ls
 flaw_number_is = listing.flaw_number_is
 
 -- ---- building

@@ -6,7 +6,8 @@
 -- Assumes nothing: these are definitions.
 use Rattle.std.specs.Prelude.{ℕ, ◌+◌, ◌*◌, ◌/◌, ◌%◌, Bool, List, [], ◌∷◌, ◌++◌, length, ltb, leb, eqb}
 use Rattle.ranges.specs.Numbers.{pick}
-use Rattle.ranges.specs.Refusals.{number_of, BadFields, BadLine, TooManyRules}
+use Rattle.ranges.specs.Refusals.{number_of, number_in}
+use Rattle.ranges.specs.declared.refusal.Cause.TheVariants.{BadFields, BadLine, TooManyRules}
 use Rattle.lists.specs.Limits.{most_fields, most_rules}
 use Rattle.lists.specs.Rules.{Rules, shape_of, listed}
 use Rattle.lists.specs.Faults.{list_fault}
@@ -63,4 +64,4 @@ reading_fault (l ∷ ls) = lines_fault 0 (width_of (l ∷ ls)) (l ∷ ls)
 
 -- the fault of a whole rules file: what is found while its lines are read, and then what the list's check finds, which is 4
 abbrev pub rules_fault : List (List ℕ) → ℕ
-rules_fault ls = first_fault (reading_fault ls) (list_fault (rules_from ls)).number
+rules_fault ls = first_fault (reading_fault ls) (number_in (list_fault (rules_from ls)))

@@ -6,7 +6,7 @@ ghost use Rattle.text.specs.Judging.{judged};
 ghost use Rattle.rulesfile.specs.Flaws.{width_flaw, line_flaw};
 ghost use Rattle.rulesfile.specs.Bytes.{no_rules, judged_by, rules_in_file, rules_step, RulesTook, rules_end};
 
-use flaws::flaw::{Flaw, flaw_number};
+use flaws::flaw::Flaw;
 use lists::shape::{MOST_FIELDS, MOST_RULES};
 use text::line::{Line, Reader, end_line, read_line, reader_start};
 
@@ -21,7 +21,7 @@ const MOST_CELLS: u32 = MOST_FIELDS as u32 * 2;
 pub struct RulesSoFar {
     pub lines: u16,
     pub width: u16,
-    pub flaw: Flaw,
+    pub flaw: Option<Flaw>,
 }
 
 // The same within a line, of which some bytes have come.
@@ -38,7 +38,7 @@ pub fn rules_start() -> RulesFile
     let rules = RulesSoFar {
         lines: 0,
         width: 0,
-        flaw: Flaw::Nothing,
+        flaw: None,
     };
     RulesFile {
         reader: reader_start(),
@@ -54,70 +54,66 @@ fn line_at(lines: u16, width: u16) -> u32
 }
 
 // Gives the flaw of a first line of so many cells, all numbers.
-fn width_flaw(cells: u32) -> Flaw
+#[tactic(auto, unfolding(crate::specs::Flaws::width_flaw))]
+fn width_flaw(cells: u32) -> Option<Flaw>
     ensures { result ≡ width_flaw cells }
 {
     if cells % 2 == 1 {
-        return Flaw::OddWidth { cells };
+        return Some(Flaw::OddWidth { cells });
     }
     if MOST_CELLS < cells {
-        return Flaw::TooWide { cells };
+        return Some(Flaw::TooWide { cells });
     }
-    Flaw::Nothing
+    None
 }
 
 // Gives the flaw of a line that has ended, after so many lines, of which the first has so many cells.
-fn line_flaw(lines: u16, width: u16, line: Line) -> Flaw
+#[tactic(auto, unfolding(crate::specs::Flaws::line_flaw))]
+fn line_flaw(lines: u16, width: u16, line: Line) -> Option<Flaw>
     ensures { result ≡ line_flaw lines width line.feed line.row.bad line.row.cells }
 {
     if MOST_LINES <= lines {
-        return Flaw::TooManyRules;
+        return Some(Flaw::TooManyRules);
     }
     let number = lines as u32 + 1;
     let row = line.row;
-    if row.bad != 0 {
+    if let Some(cell) = row.bad {
         if line.feed {
-            return Flaw::LoneFeed;
+            return Some(Flaw::LoneFeed);
         }
-        return Flaw::NotNumber {
-            line: number,
-            cell: row.bad,
-        };
+        return Some(Flaw::NotNumber { line: number, cell });
     }
     if lines == 0 {
         return width_flaw(row.cells);
     }
     if row.cells == width as u32 {
-        return Flaw::Nothing;
+        return None;
     }
-    Flaw::OtherWidth {
+    Some(Flaw::OtherWidth {
         line: number,
         cells: row.cells,
         width: width as u32,
-    }
+    })
 }
 
 // Gives the rules after a line that has ended. The first flaw is kept.
+#[tactic(auto, unfolding(crate::specs::Bytes::judged_by))]
 fn judged(rules: RulesSoFar, line: Line) -> RulesSoFar
     ensures { result ≡ judged_by rules line }
 {
-    let before = rules.flaw;
-    if flaw_number(before) != 0 {
+    if rules.flaw.is_some() {
         return rules;
     }
-    let flaw = line_flaw(rules.lines, rules.width, line);
-    if flaw_number(flaw) != 0 {
-        return RulesSoFar {
-            lines: rules.lines,
-            width: rules.width,
-            flaw,
-        };
-    }
-    let row = line.row;
-    RulesSoFar {
-        lines: rules.lines + 1,
-        width: row.cells as u16,
-        flaw: Flaw::Nothing,
+    match line_flaw(rules.lines, rules.width, line) {
+        Some(flaw) => RulesSoFar {
+            flaw: Some(flaw),
+            ..rules
+        },
+        None => RulesSoFar {
+            lines: rules.lines + 1,
+            width: line.row.cells as u16,
+            flaw: None,
+        },
     }
 }
 
@@ -157,11 +153,11 @@ pub fn rules_piece(file: RulesFile, bytes: &[u8], list: &mut [u32]) -> RulesFile
     ensures { rules_in_file result list.new ≡ fed rules_step (rules_in_file file list.old) bytes.now }
 {
     let mut present = file;
-    let mut i = 0;
-    while i < bytes.len() {
-        let next = rules_line(present, &bytes[i..], list);
+    let mut rest = bytes;
+    while !rest.is_empty() {
+        let next = rules_line(present, rest, list);
         present = next.file;
-        i += next.used;
+        rest = &rest[next.used..];
     }
     present
 }

@@ -3,11 +3,12 @@
 -- Assumes nothing.
 use Prim.Native.Nat.{ℕ, ◌+◌, ◌-◌, ◌<◌}
 use mathlib.Core.List.{List, [], ◌∷◌, ◌++◌}
-use mathlib.Core.Path.{◌≡◌, refl, ap, ◌∙◌}
+use mathlib.Core.Path.{◌≡◌, refl, sym, ap, ◌∙◌}
 use native.Mathlib.Omega.{arith}
 use native.Mathlib.Numerals.{add-one}
 use lib.ListN.{length, get_or, take, drop, length-drop}
 use lib.Seq.{take-suc, take-add, take_all}
+use Rattle.std.proofs.lemmas.List.{take-append-drop}
 use Rattle.text.specs.Cells.{fed}
 
 -- what is lent of a run from a place on
@@ -30,3 +31,8 @@ module _ {A : Type 0} (step : A → ℕ → A) where
       → fed step s (take (i + used) bytes) ≡ fed step (fed step s (take i bytes)) (take used (take (length bytes - i) (drop i bytes)))
   fed_on s bytes i used =
       rw (rest_is bytes i) (ap (fed step s) (take-add i used bytes) ∙ fed_append s (take i bytes) (take used (drop i bytes)))
+
+  -- the first bytes of a run, and then what is lent of the rest
+  pub fed_rest : (s : A) (bytes : List ℕ) (used : ℕ) → fed step (fed step s (take used bytes)) (take (length bytes - used) (drop used bytes)) ≡ fed step s bytes
+  fed_rest s bytes used =
+      rw (rest_is bytes used) (sym (fed_append s (take used bytes) (drop used bytes)) ∙ ap (fed step s) (take-append-drop used bytes))

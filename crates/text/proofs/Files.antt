@@ -1,7 +1,7 @@
 -- A file read byte by byte is read line by line (`specs/Files.antt`), whatever the reader does for a byte of a line and
 -- for a line's end, as long as the file's end after a byte is the line's end, and after a line's end does nothing.
 --     open_plain, open_lone, step_ends, step_open                           one byte, way by way
---     line_empty, line_ends, line_more, line_some, line_most_lem, line_on_lem       bytes up to the end of the present line
+--     line_empty, line_ends, line_more, line_some, line_most_lem, line_on_lem, line_rest       bytes up to the end of the present line
 --     file_is                                                               a whole file
 --     fed_map, finish_map                                                   a change of state that bytes and line ends do not see
 -- Assumes nothing.
@@ -113,6 +113,10 @@ line_on_lem cr bytes i lt is =
     let size : length part ≡ length bytes - i = ap length (rest_is bytes i) ∙ length-drop i bytes in
     let some : 0 < length part = omega arith in
     (omega (arith, line_some cr part some), omega (arith, line_most_lem cr part))
+
+-- where there are bytes, fewer are left after them
+pub line_rest : (cr : Bool) (bs : List ℕ) {used : ℕ} → 0 < length bs → used ≡ line_in cr bs → length (take (length bs - used) (drop used bs)) < length bs
+line_rest cr bs {used} some is = omega (arith, ap length (rest_is bs used), length-drop used bs, line_some cr bs some, is)
 
 -- ---- a whole file
 module _ {X : Type 0} (byte : X → ℕ → X) (close : X → X) (begun : X → Bool)

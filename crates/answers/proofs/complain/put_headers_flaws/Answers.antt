@@ -5,4 +5,5 @@ use Rattle.answers.proofs.complain.put_headers_flaws.Goals as goal
 
 pub returns : goal.returns
 returns c =
-    put_then (put_then (put_then (put_then (put_then (put_then c.put_named-a.ensures c.put_text-b.ensures) c.put_counted-c.ensures) c.put_text-e.ensures) c.put_number-f.ensures) c.put_why-g.ensures) c.put_text.ensures
+    rw c.in-Some.is
+    (put_then (put_then (put_then (put_then (put_then (put_then c.put_named-a.ensures c.put_text-b.ensures) c.put_counted-c.ensures) c.put_text-e.ensures) c.put_number-f.ensures) c.put_why-g.ensures) c.put_text.ensures)

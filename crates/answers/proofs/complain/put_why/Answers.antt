@@ -1,10 +1,7 @@
 -- `answers::complain::put_why` meets its contract, flaw by flaw.
 -- Assumes nothing.
-use Rattle.text.proofs.Puts.{put_no_byte, put_then}
+use Rattle.text.proofs.Puts.{put_then}
 use Rattle.answers.proofs.complain.put_why.Goals as goal
-
-pub returns-in-Nothing : goal.returns-in-Nothing
-returns-in-Nothing c = rw c.in-Nothing.is put_no_byte
 
 pub returns-in-NotNumber : goal.returns-in-NotNumber
 returns-in-NotNumber c = rw c.in-NotNumber.is (put_then c.put_text-a.ensures c.put_not_number.ensures)

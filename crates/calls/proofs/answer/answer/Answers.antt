@@ -4,6 +4,6 @@ use native.Mathlib.Omega.{arith}
 use Rattle.phrases.proofs.Few.{few_text, few_then, few_more}
 use Rattle.calls.proofs.answer.answer.Goals as goal
 
-pub returns : goal.returns
-returns c =
-    record { put_few = few_more (omega arith) (few_then c.put_answer-next.ensures.put_few (few_text 1 (omega arith) c.put_byte.ensures)); numbers_after = c.put_answer-next.ensures.numbers_after }
+pub returns-clause-put_few : goal.returns-clause-put_few
+returns-clause-put_few c =
+    few_more (omega arith) (few_then c.put_answer-next.ensures.put_few (few_text 1 (omega arith) c.put_byte.ensures))

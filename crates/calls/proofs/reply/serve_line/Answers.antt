@@ -1,9 +1,9 @@
 -- `calls::reply::serve_line` meets its contract: each way out is the law of its case.
 -- Assumes nothing.
+use Prim.Native.Nat.{◌≤◌}
 use mathlib.Core.Path.{sym}
 use native.Mathlib.Omega.{arith}
 use lib.ListN.{length}
-use Prim.Native.Nat.{◌≤◌}
 use lib.Seq.{length-take-le}
 use Rattle.hearing.proofs.Lines.{line_within}
 use Rattle.calls.proofs.Serving.{served-within, served-ended, anew_is}

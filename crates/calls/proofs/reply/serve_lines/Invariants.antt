@@ -2,7 +2,6 @@
 -- answer (`Came`); the measure is what is left of the bytes.
 -- Assumes nothing.
 use Prim.Native.Nat.{◌-◌}
-use mathlib.Core.Path.{◌≡◌}
 use lib.ListN.{length}
 use Rattle.hearing.specs.Lines.{heard}
 use Rattle.calls.proofs.Replies.{Came}
@@ -10,10 +9,7 @@ use Rattle.calls.proofs.reply.serve_lines.Given as goal
 
 abbrev pub invariant-loop-next : goal.invariant-loop-next
 invariant-loop-next l =
-    (length l.name ≡ length l.initial.name)
-    × (length l.numbers ≡ length l.initial.numbers)
-    × (length l.out ≡ length l.initial.out)
-    × Came (heard l.initial.present l.initial.name l.initial.numbers) l.bytes l.initial.out (heard l.present l.name l.numbers) l.next l.out l.at
+    Came (heard l.initial.present l.initial.name l.initial.numbers) l.bytes l.initial.out (heard l.present l.name l.numbers) l.next l.out l.at
 
 abbrev pub decreases-loop-next : goal.decreases-loop-next
 decreases-loop-next l = length l.bytes - l.next
