@@ -7,7 +7,7 @@
 #include <string.h>
 
 // What both sides must answer alike: the first so many numbers of each answer; and whether a lookup may take fewer tests than before.
-enum { ALIKE = 7, TESTS = 5, FEWER_TESTS = 1, MOST_ANSWERED = 8 };
+enum { ALIKE = 7, TESTS = 5, FEWER_TESTS = 0, MOST_ANSWERED = 8 };
 
 // What a call is lent beside its header: n rules of d fields, `length` numbers of the list, and the side's own table.
 struct lent {
@@ -16,10 +16,9 @@ struct lent {
     uint16_t *table;
 };
 
-// Says whether the tables are alike: the new one has each partition's smallest rule number, and else every number of the one before.
+// Says whether the tables are alike: in every number.
 static int tables_alike(const struct lent *before, const struct lent *new) {
-    size_t head = least_at(new->n), rest = before->table_length - head;
-    return memcmp(before->table, new->table, 2 * head) == 0 && memcmp(before->table + head, new->table + from_at(new->n), 2 * rest) == 0;
+    return before->table_length == new->table_length && memcmp(before->table, new->table, 2 * new->table_length) == 0;
 }
 
 // The functions of a side, called in the same way on both. cuy_choose and cuy_lay_out, which in turn are cuy_build, are not among them.
@@ -36,7 +35,7 @@ struct side {
 };
 
 // The side before, of this version. Where the header has changed, the line below says what the signature was.
-enum { BEFORE_VERSION = 3 };
+enum { BEFORE_VERSION = 4 };
 extern __typeof__(cuy_version) before_cuy_version;
 extern __typeof__(cuy_check) before_cuy_check;
 extern __typeof__(cuy_plain_scan) before_cuy_plain_scan;
@@ -50,7 +49,7 @@ extern __typeof__(cuy_range_to_prefixes) before_cuy_range_to_prefixes;
 // No field is a date, on either side.
 enum { NO_DATES = 0 };
 
-static size_t before_table_length(size_t n, size_t d) { return 4 + 2 * n + 2 * n * d; }
+static size_t before_table_length(size_t n, size_t d) { return CUY_TABLE_LENGTH(n, d); }
 static uint32_t before_check(const struct lent *l, uint64_t *a) { return before_cuy_check(l->d, NO_DATES, l->list, l->length, a); }
 static uint32_t before_plain_scan(const struct lent *l, const uint32_t *h, uint64_t *a) { return before_cuy_plain_scan(l->d, NO_DATES, l->list, l->length, h, a); }
 static uint32_t before_independence(const struct lent *l, uint64_t *a) { return before_cuy_independence(l->d, NO_DATES, l->list, l->length, a); }
