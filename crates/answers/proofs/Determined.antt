@@ -4,13 +4,17 @@
 -- Assumes nothing.
 use Prim.Native.Nat.{ℕ}
 use mathlib.Core.List.{List}
-use mathlib.Core.Path.{◌≡◌, sym, ap, ◌∙◌}
+use mathlib.Core.Path.{◌≡◌, sym, ◌∙◌}
 use Rattle.ranges.proofs.OneAnswer.{OneAnswer, OneRun}
 use Rattle.text.proofs.Determined.{place_one, bytes_one}
+use Rattle.std.specs.Prelude.{⊤, Result}
+use Rattle.std.specs.Result.{result_err}
+use Rattle.text.specs.declared.put.Out.{Out}
+use Rattle.flaws.specs.declared.flaw.Flaw.{Flaw}
 use Rattle.rulesfile.specs.declared.file.RulesSoFar.{RulesSoFar}
+use Rattle.rulesfile.proofs.Determined.{built_alike}
 use Rattle.answers.specs.Said.{PutLine}
 use Rattle.answers.specs.Opened.{opened_said, OpenedWith}
-use Rattle.answers.specs.declared.open.Opened.{Opened}
 use Rattle.answers.proofs.answer.header_flaw.Kinds as header_flaw_kinds
 use Rattle.answers.proofs.answer.header_flaw.Reads as header_flaw_reads
 use Rattle.answers.proofs.answer.put_answer.Kinds as put_answer_kinds
@@ -34,11 +38,11 @@ use Rattle.answers.proofs.open.open_rules.Reads as open_rules_reads
 pub header_flaw_one : OneAnswer 0 header_flaw_kinds.ps header_flaw_kinds.r header_flaw_reads.Learnt
 header_flaw_one κs a x y e g p q = p ∙ sym q
 
-pub put_answer_one : OneAnswer 3 put_answer_kinds.ps put_answer_kinds.r put_answer_reads.Learnt
-put_answer_one κs a x y e g p q = place_one p.put q.put
+pub put_answer_one : OneRun 5 put_answer_kinds.ps put_answer_kinds.r put_answer_reads.Learnt (λ κs e. e.1.1.1.1.0.now.at)
+put_answer_one κs a x y e g p q = place_one p.puts.put q.puts.put
 
-pub put_answer_run_one : OneRun 3 put_answer_kinds.ps put_answer_kinds.r put_answer_reads.Learnt (λ κs e. e.1.1.1.1.1.0.now)
-put_answer_run_one κs a x y e g p q = bytes_one p.put q.put
+pub put_answer_run_one : OneRun 5 put_answer_kinds.ps put_answer_kinds.r put_answer_reads.Learnt (λ κs e. e.1.1.1.1.0.now.bytes.now)
+put_answer_run_one κs a x y e g p q = bytes_one p.puts.put q.puts.put
 
 -- ---- count
 pub count_start_one : OneAnswer 0 count_start_kinds.ps count_start_kinds.r count_start_reads.Learnt
@@ -48,50 +52,49 @@ pub counted_one : OneAnswer 0 counted_kinds.ps counted_kinds.r counted_reads.Lea
 counted_one κs a x y e g p q = p ∙ sym q
 
 -- ---- say
-pub put_head_one : OneAnswer 1 put_head_kinds.ps put_head_kinds.r put_head_reads.Learnt
-put_head_one κs a x y e g p q = place_one p q
+pub put_head_one : OneRun 2 put_head_kinds.ps put_head_kinds.r put_head_reads.Learnt (λ κs e. e.0.now.at)
+put_head_one κs a x y e g p q = place_one p.put q.put
 
-pub put_head_run_one : OneRun 1 put_head_kinds.ps put_head_kinds.r put_head_reads.Learnt (λ κs e. e.0.now)
-put_head_run_one κs a x y e g p q = bytes_one p q
+pub put_head_run_one : OneRun 2 put_head_kinds.ps put_head_kinds.r put_head_reads.Learnt (λ κs e. e.0.now.bytes.now)
+put_head_run_one κs a x y e g p q = bytes_one p.put q.put
 
-pub put_refused_one : OneAnswer 1 put_refused_kinds.ps put_refused_kinds.r put_refused_reads.Learnt
-put_refused_one κs a x y e g p q = place_one p.put q.put
+pub put_refused_one : OneRun 2 put_refused_kinds.ps put_refused_kinds.r put_refused_reads.Learnt (λ κs e. e.1.0.now.at)
+put_refused_one κs a x y e g p q = place_one p.puts.put q.puts.put
 
-pub put_refused_run_one : OneRun 1 put_refused_kinds.ps put_refused_kinds.r put_refused_reads.Learnt (λ κs e. e.1.0.now)
-put_refused_run_one κs a x y e g p q = bytes_one p.put q.put
+pub put_refused_run_one : OneRun 2 put_refused_kinds.ps put_refused_kinds.r put_refused_reads.Learnt (λ κs e. e.1.0.now.bytes.now)
+put_refused_run_one κs a x y e g p q = bytes_one p.puts.put q.puts.put
 
-pub put_looked_one : OneAnswer 1 put_looked_kinds.ps put_looked_kinds.r put_looked_reads.Learnt
-put_looked_one κs a x y e g p q = place_one p.put q.put
+pub put_looked_one : OneRun 2 put_looked_kinds.ps put_looked_kinds.r put_looked_reads.Learnt (λ κs e. e.1.0.now.at)
+put_looked_one κs a x y e g p q = place_one p.puts.put q.puts.put
 
-pub put_looked_run_one : OneRun 1 put_looked_kinds.ps put_looked_kinds.r put_looked_reads.Learnt (λ κs e. e.1.0.now)
-put_looked_run_one κs a x y e g p q = bytes_one p.put q.put
+pub put_looked_run_one : OneRun 2 put_looked_kinds.ps put_looked_kinds.r put_looked_reads.Learnt (λ κs e. e.1.0.now.bytes.now)
+put_looked_run_one κs a x y e g p q = bytes_one p.puts.put q.puts.put
 
 -- ---- complain
-pub put_headers_flaws_one : OneAnswer 2 put_headers_flaws_kinds.ps put_headers_flaws_kinds.r put_headers_flaws_reads.Learnt
-put_headers_flaws_one κs a x y e g p q = place_one p q
+pub put_headers_flaws_one : OneRun 3 put_headers_flaws_kinds.ps put_headers_flaws_kinds.r put_headers_flaws_reads.Learnt (λ κs e. e.1.1.1.0.now.at)
+put_headers_flaws_one κs a x y e g p q = place_one p.put q.put
 
-pub put_headers_flaws_run_one : OneRun 2 put_headers_flaws_kinds.ps put_headers_flaws_kinds.r put_headers_flaws_reads.Learnt (λ κs e. e.1.1.1.0.now)
-put_headers_flaws_run_one κs a x y e g p q = bytes_one p q
+pub put_headers_flaws_run_one : OneRun 3 put_headers_flaws_kinds.ps put_headers_flaws_kinds.r put_headers_flaws_reads.Learnt (λ κs e. e.1.1.1.0.now.bytes.now)
+put_headers_flaws_run_one κs a x y e g p q = bytes_one p.put q.put
 
 -- ---- open
-module _ (rules : RulesSoFar) (list table out : List ℕ) {r s : Opened} {built built' after after' : List ℕ} (p : OpenedWith rules list table out r built after)
-    (q : OpenedWith rules list table out s built' after') where
-  flaw_alike : r.flaw ≡ s.flaw
+module _ (rules : RulesSoFar) (list table : List ℕ) (old : Out) {r s : Result ⊤ Flaw} {built built' : List ℕ} {new new' : Out} (p : OpenedWith rules list table old r built new)
+    (q : OpenedWith rules list table old s built' new') where
+  flaw_alike : result_err r ≡ result_err s
   flaw_alike = p.flaw ∙ sym q.flaw
 
   -- the second's line, said of the first's flaw
-  line_alike : PutLine out 0 (opened_said r.flaw) after' s.at
+  line_alike : PutLine old (opened_said (result_err r)) new'
   line_alike = rw flaw_alike q.prints
 
-  opened_alike : r ≡ s
-  opened_alike =
-      ap (λ f. record { flaw = f; at = r.at }) flaw_alike ∙ ap (λ k. record { flaw = s.flaw; at = k }) (place_one p.prints.put line_alike.put)
+pub open_rules_one : OneAnswer 4 open_rules_kinds.ps open_rules_kinds.r open_rules_reads.Learnt
+open_rules_one κs a x y e g p q = built_alike x y (flaw_alike _ _ _ _ p q)
 
-pub open_rules_one : OneAnswer 3 open_rules_kinds.ps open_rules_kinds.r open_rules_reads.Learnt
-open_rules_one κs a x y e g p q = opened_alike _ _ _ _ p q
-
-pub open_rules_table_one : OneRun 3 open_rules_kinds.ps open_rules_kinds.r open_rules_reads.Learnt (λ κs e. e.1.1.0.now)
+pub open_rules_table_one : OneRun 4 open_rules_kinds.ps open_rules_kinds.r open_rules_reads.Learnt (λ κs e. e.1.1.0.now)
 open_rules_table_one κs a x y e g p q = p.builds ∙ sym q.builds
 
-pub open_rules_run_one : OneRun 3 open_rules_kinds.ps open_rules_kinds.r open_rules_reads.Learnt (λ κs e. e.1.1.1.0.now)
-open_rules_run_one κs a x y e g p q = bytes_one p.prints.put (line_alike _ _ _ _ p q).put
+pub open_rules_place_one : OneRun 4 open_rules_kinds.ps open_rules_kinds.r open_rules_reads.Learnt (λ κs e. e.1.1.1.0.now.at)
+open_rules_place_one κs a x y e g p q = place_one p.prints.puts.put (line_alike _ _ _ _ p q).puts.put
+
+pub open_rules_run_one : OneRun 4 open_rules_kinds.ps open_rules_kinds.r open_rules_reads.Learnt (λ κs e. e.1.1.1.0.now.bytes.now)
+open_rules_run_one κs a x y e g p q = bytes_one p.prints.puts.put (line_alike _ _ _ _ p q).puts.put

@@ -5,12 +5,14 @@ use Prim.Native.Nat.{ℕ, ◌+◌, ◌^◌, ◌≤◌, ◌<◌}
 use mathlib.Core.List.{List, ◌++◌}
 use native.Mathlib.Omega.{arith}
 use lib.ListN.{length, length-append}
+use Rattle.std.specs.Prelude.{Option}
 use Rattle.text.specs.Texts.{bytes}
 use Rattle.text.specs.Decimals.{decimal_of}
 use Rattle.text.proofs.Decimals.{decimal_short}
-use Rattle.answers.specs.Said.{refused_said, tests_said, line_most}
+use Rattle.lookup.specs.declared.lookup.Match.{Match}
+use Rattle.answers.specs.Said.{refused_said, found_said, tests_said, line_most}
 
-few_digits : (n : ℕ) → n < 2 ^ 64 → length (decimal_of n) ≤ 20
+pub few_digits : (n : ℕ) → n < 2 ^ 64 → length (decimal_of n) ≤ 20
 few_digits n small = decimal_short 19 n (omega arith)
 
 -- bytes before, a number, bytes after
@@ -25,10 +27,5 @@ refused_short n small = omega (arith, around (bytes "refused,") n (bytes "\r\n")
 pub tests_short : (t : ℕ) → t < 2 ^ 64 → length (tests_said t) ≤ 23
 tests_short t small = omega (arith, around (bytes ",") t (bytes "\r\n") small)
 
-pub rule_short : (i t : ℕ) → i < 2 ^ 64 → length (tests_said t) ≤ 23 → length (decimal_of i ++ tests_said t) ≤ line_most
-rule_short i t small rest =
-    let few = few_digits i small in
-    rw (length-append (decimal_of i) (tests_said t)) (omega arith)
-
-pub none_short : (t : ℕ) → length (tests_said t) ≤ 23 → length (bytes "none" ++ tests_said t) ≤ line_most
-none_short t rest = rw (length-append (bytes "none") (tests_said t)) (omega arith)
+pub looked_short : (found : Option Match) (t : ℕ) → length (found_said found) ≤ 20 → length (tests_said t) ≤ 23 → length (found_said found ++ tests_said t) ≤ line_most
+looked_short found t few rest = rw (length-append (found_said found) (tests_said t)) (omega arith)

@@ -3,7 +3,8 @@
 -- Assumes nothing: these are definitions.
 use Rattle.std.specs.Prelude.{ℕ, suc, ◌+◌, Bool, List, [], ◌∷◌, ◌++◌, length, take, eqb, Option, None, Some, is_some}
 use Rattle.ranges.specs.Numbers.{pick, ◌and◌}
-use Rattle.ranges.specs.Refusals.{number_of, BadLine}
+use Rattle.ranges.specs.Refusals.{number_of}
+use Rattle.ranges.specs.declared.refusal.Cause.TheVariants.{BadLine}
 use Rattle.lists.specs.Rules.{Rules, fields_of}
 use Rattle.lookup.specs.Lookup.{lookup_of}
 use Rattle.lists.specs.Headers.{header_length, zeros}

@@ -1,14 +1,15 @@
 // The answer to a header line that has ended.
 ghost use Rattle.std.specs.Prelude.{◌≡◌};
-ghost use Rattle.lists.specs.Rules.{listed};
+ghost use Rattle.lists.specs.Rules.{lent};
 ghost use Rattle.answers.specs.HeaderLines.{header_flaw, answer_said};
 ghost use Rattle.answers.specs.Said.{PutLine};
 
 use crate::say::{put_looked, put_refused};
-use lists::shape::Shape;
+use lists::shape::RuleList;
 use lookup::lookup::lookup;
-use ranges::refusal::BAD_LINE;
+use ranges::refusal::Cause;
 use text::line::Line;
+use text::put::Out;
 
 // Why a header line is refused. Cells count from 1, as the reader counts them.
 #[derive(Clone, Copy)]
@@ -41,18 +42,15 @@ pub fn header_flaw(line: Line, d: usize) -> Option<HeaderFlaw>
 // Puts the answer to a line: the lookup's where it has no flaw, and else refused,8.
 pub fn put_answer(
     flaw: Option<HeaderFlaw>,
-    shape: Shape,
-    list: &[u32],
+    list: &RuleList,
     table: &[u16],
     header: [u32; 8],
-    out: &mut [u8],
-    at: usize,
-) -> usize
-    ensures { PutLine out.old at (answer_said (listed shape list.now) table.now flaw header) out.new result }
+    out: &mut Out,
+)
+    ensures { PutLine out.old (answer_said (lent list.now) table.now flaw header) out.new }
 {
-    if flaw.is_some() {
-        return put_refused(BAD_LINE, out, at);
+    match flaw {
+        Some(_) => put_refused(Cause::BadLine.number(), out),
+        None => put_looked(lookup(list, table, header), out),
     }
-    let looked = lookup(shape, list, table, header);
-    put_looked(looked, out, at)
 }

@@ -46,7 +46,7 @@ module _ {r s : RulesSoFar} {list list' : List ℕ} (same : judged r list ≡ ju
   left_alike = ap (λ x. x.run) same
 
 -- what is built has no value but its flaw
-built_alike : (r s : Result ⊤ Flaw) → result_err r ≡ result_err s → r ≡ s
+pub built_alike : (r s : Result ⊤ Flaw) → result_err r ≡ result_err s → r ≡ s
 built_alike (Ok x) (Ok y) same = refl
 built_alike (Ok x) (Err g) same = absurd (none-some g same)
 built_alike (Err f) (Ok y) same = absurd (none-some f (sym same))

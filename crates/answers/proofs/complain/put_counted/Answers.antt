@@ -1,7 +1,7 @@
--- `answers::complain::put_counted` meets its contract.
+-- `answers::complain::put_counted` meets its contract: its parts one after the other.
 -- Assumes nothing.
-use Rattle.text.proofs.Puts.{put_then}
+use Rattle.text.proofs.Puts.{puts_then}
 use Rattle.answers.proofs.complain.put_counted.Goals as goal
 
 pub returns : goal.returns
-returns c = put_then c.put_number-a.ensures c.put_plural.ensures
+returns c = puts_then c.number.ensures c.put_plural.ensures
