@@ -1,6 +1,6 @@
 -- What is said on standard error of the headers, for a person. `path` is the file's name as given.
 -- Assumes nothing: these are definitions.
-use Rattle.std.specs.Prelude.{ℕ, List, [], ◌++◌, Option, None, Some}
+use Rattle.std.specs.Prelude.{ℕ, List, ◌++◌, Option, None, Some}
 use Rattle.text.specs.Texts.{bytes}
 use Rattle.text.specs.Decimals.{decimal_of}
 use Rattle.flaws.specs.Said.{plural_said, cells_said, not_number_said, feed_said, named_said}
@@ -20,11 +20,10 @@ why_said path d LoneFeed = bytes ": " ++ feed_said path
 why_said path d (OtherWidth cells) = bytes ": " ++ cells_said cells ++ bytes ", where a rule has " ++ counted_said d (bytes " field")
 
 -- lines that were refused, the first of them named
-abbrev pub refused_complaint : List ℕ → ℕ → Option RefusedLines → List ℕ
-refused_complaint path d None = []
-refused_complaint path d (Some r) =
-    named_said (bytes "gateway") path ++ bytes ": " ++ counted_said r.count (bytes " line") ++ bytes " refused, the first is line " ++ decimal_of r.first ++ why_said path d r.flaw ++ bytes "\n"
+abbrev pub refused_said : List ℕ → ℕ → Option RefusedLines → List ℕ
+refused_said path d None = bytes "0 lines refused, the first is line 0"
+refused_said path d (Some r) = counted_said r.count (bytes " line") ++ bytes " refused, the first is line " ++ decimal_of r.first ++ why_said path d r.flaw
 
 -- of the headers
 abbrev pub headers_complaint : List ℕ → ℕ → HeadersSoFar → List ℕ
-headers_complaint path d h = refused_complaint path d h.refused
+headers_complaint path d h = named_said (bytes "gateway") path ++ bytes ": " ++ refused_said path d h.refused ++ bytes "\n"

@@ -1,10 +1,10 @@
 // What is said on standard error of the headers, for a person: which file, how many lines of it are refused, which is the
 // first, and what is wrong there.
 ghost use Rattle.text.specs.Puts.{Puts};
-ghost use Rattle.answers.specs.Complaints.{counted_said, why_said, headers_complaint};
+ghost use Rattle.answers.specs.Complaints.{counted_said, why_said, refused_said, headers_complaint};
 
 use crate::answer::HeaderFlaw;
-use crate::count::HeadersSoFar;
+use crate::count::{HeadersSoFar, RefusedLines};
 use flaws::say::{put_cells, put_feed, put_named, put_not_number, put_plural};
 use text::put::Out;
 
@@ -38,19 +38,27 @@ fn put_why(flaw: HeaderFlaw, d: usize, path: &[u8], out: &mut Out)
     }
 }
 
-// Puts the line that says how many header lines were refused, and of the first which it is and why; nothing where none
-// was.
+// Puts how many header lines were refused, and of the first which it is and why.
+fn put_refused(refused: Option<RefusedLines>, d: usize, path: &[u8], out: &mut Out)
+    ensures { Puts out.old (refused_said path.now d refused) out.new }
+{
+    match refused {
+        None => out.text(b"0 lines refused, the first is line 0"),
+        Some(lines) => {
+            put_counted(lines.count, b" line", out);
+            out.text(b" refused, the first is line ");
+            out.number(lines.first);
+            put_why(lines.flaw, d, path, out);
+        }
+    }
+}
+
+// Puts the line that says how many header lines were refused, and of the first which it is and why.
 pub fn put_headers_flaws(headers: HeadersSoFar, d: usize, path: &[u8], out: &mut Out)
     ensures { Puts out.old (headers_complaint path.now d headers) out.new }
 {
-    let Some(refused) = headers.refused else {
-        return;
-    };
     put_named(b"gateway", path, out);
     out.text(b": ");
-    put_counted(refused.count, b" line", out);
-    out.text(b" refused, the first is line ");
-    out.number(refused.first);
-    put_why(refused.flaw, d, path, out);
+    put_refused(headers.refused, d, path, out);
     out.text(b"\n");
 }

@@ -1,4 +1,6 @@
-// How an answer is written into the run of numbers that a caller lends: number, at, then, and then what is answered.
+// How an answer is written into the run of numbers that a caller lends: number, at, then, and then what is answered. A function for
+// each answer: their runs differ in length, and no length can be worked out of another's in a type. (One function that is handed
+// what an answer says was tried, and its callers' proofs did not close.)
 ghost use Rattle.std.specs.Prelude.{◌-◌, ◌≤◌};
 ghost use Rattle.ranges.specs.Refusals.{says_count};
 ghost use Rattle.ranges.specs.Prefixes.{says_bounds};

@@ -4,6 +4,4 @@ use Rattle.text.proofs.Puts.{puts_then}
 use Rattle.answers.proofs.complain.put_headers_flaws.Goals as goal
 
 pub returns : goal.returns
-returns c =
-    rw c.in-Some.is
-    (puts_then (puts_then (puts_then (puts_then (puts_then (puts_then c.put_named.ensures c.text.ensures) c.put_counted.ensures) c.text-2.ensures) c.number.ensures) c.put_why.ensures) c.text-3.ensures)
+returns c = puts_then (puts_then (puts_then c.put_named.ensures c.text.ensures) c.put_refused.ensures) c.text-2.ensures
