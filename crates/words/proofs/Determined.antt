@@ -1,5 +1,5 @@
--- Any two results that a public function's contract allows for the same arguments are equal, and so are any two runs of bytes that it leaves:
--- a contract is one equation, `r ≡ ..`, or says which bytes are put and which place is the next (`PutFew`). `Learnt` is what a caller
+-- Any two results that a public function's contract allows for the same arguments are equal, and so are any two places and runs of bytes that
+-- it leaves: a contract is one equation, `r ≡ ..`, or says which bytes are put, from which place on (`PutFew`). `Learnt` is what a caller
 -- learns of a call, as the checker reads it off the contract's `ensures`; `ps` and `r` are its parameters' and its result's types.
 -- Assumes nothing.
 use mathlib.Core.Path.{sym, ◌∙◌}
@@ -49,57 +49,57 @@ pub table_ends_one : OneAnswer 1 table_ends_kinds.ps table_ends_kinds.r table_en
 table_ends_one κs a x y e g p q = p ∙ sym q
 
 -- ---- list_words
-pub call_check_one : OneAnswer 2 call_check_kinds.ps call_check_kinds.r call_check_reads.Learnt
-call_check_one κs a x y e g p q = place_one p.puts q.puts
+pub call_check_one : OneRun 3 call_check_kinds.ps call_check_kinds.r call_check_reads.Learnt (λ κs e. e.1.1.0.now.at)
+call_check_one κs a x y e g p q = place_one p.puts.put q.puts.put
 
-pub call_check_bytes_one : OneRun 2 call_check_kinds.ps call_check_kinds.r call_check_reads.Learnt (λ κs e. e.1.1.0.now)
-call_check_bytes_one κs a x y e g p q = bytes_one p.puts q.puts
+pub call_check_bytes_one : OneRun 3 call_check_kinds.ps call_check_kinds.r call_check_reads.Learnt (λ κs e. e.1.1.0.now.bytes.now)
+call_check_bytes_one κs a x y e g p q = bytes_one p.puts.put q.puts.put
 
-pub call_scan_one : OneAnswer 2 call_scan_kinds.ps call_scan_kinds.r call_scan_reads.Learnt
-call_scan_one κs a x y e g p q = place_one p.puts q.puts
+pub call_scan_one : OneRun 3 call_scan_kinds.ps call_scan_kinds.r call_scan_reads.Learnt (λ κs e. e.1.1.0.now.at)
+call_scan_one κs a x y e g p q = place_one p.puts.put q.puts.put
 
-pub call_scan_bytes_one : OneRun 2 call_scan_kinds.ps call_scan_kinds.r call_scan_reads.Learnt (λ κs e. e.1.1.0.now)
-call_scan_bytes_one κs a x y e g p q = bytes_one p.puts q.puts
+pub call_scan_bytes_one : OneRun 3 call_scan_kinds.ps call_scan_kinds.r call_scan_reads.Learnt (λ κs e. e.1.1.0.now.bytes.now)
+call_scan_bytes_one κs a x y e g p q = bytes_one p.puts.put q.puts.put
 
-pub call_independent_one : OneAnswer 2 call_independent_kinds.ps call_independent_kinds.r call_independent_reads.Learnt
-call_independent_one κs a x y e g p q = place_one p.puts q.puts
+pub call_independent_one : OneRun 3 call_independent_kinds.ps call_independent_kinds.r call_independent_reads.Learnt (λ κs e. e.1.1.0.now.at)
+call_independent_one κs a x y e g p q = place_one p.puts.put q.puts.put
 
-pub call_independent_bytes_one : OneRun 2 call_independent_kinds.ps call_independent_kinds.r call_independent_reads.Learnt (λ κs e. e.1.1.0.now)
-call_independent_bytes_one κs a x y e g p q = bytes_one p.puts q.puts
+pub call_independent_bytes_one : OneRun 3 call_independent_kinds.ps call_independent_kinds.r call_independent_reads.Learnt (λ κs e. e.1.1.0.now.bytes.now)
+call_independent_bytes_one κs a x y e g p q = bytes_one p.puts.put q.puts.put
 
 -- ---- choice_words
-pub call_choice_one : OneAnswer 2 call_choice_kinds.ps call_choice_kinds.r call_choice_reads.Learnt
-call_choice_one κs a x y e g p q = place_one p.puts q.puts
+pub call_choice_one : OneRun 3 call_choice_kinds.ps call_choice_kinds.r call_choice_reads.Learnt (λ κs e. e.1.1.1.0.now.at)
+call_choice_one κs a x y e g p q = place_one p.puts.put q.puts.put
 
-pub call_choice_bytes_one : OneRun 2 call_choice_kinds.ps call_choice_kinds.r call_choice_reads.Learnt (λ κs e. e.1.1.1.0.now)
-call_choice_bytes_one κs a x y e g p q = bytes_one p.puts q.puts
+pub call_choice_bytes_one : OneRun 3 call_choice_kinds.ps call_choice_kinds.r call_choice_reads.Learnt (λ κs e. e.1.1.1.0.now.bytes.now)
+call_choice_bytes_one κs a x y e g p q = bytes_one p.puts.put q.puts.put
 
 -- ---- table_words
-pub call_table_one : OneAnswer 2 call_table_kinds.ps call_table_kinds.r call_table_reads.Learnt
-call_table_one κs a x y e g p q = place_one p.puts q.puts
+pub call_table_one : OneRun 3 call_table_kinds.ps call_table_kinds.r call_table_reads.Learnt (λ κs e. e.1.1.1.0.now.at)
+call_table_one κs a x y e g p q = place_one p.puts.put q.puts.put
 
-pub call_table_bytes_one : OneRun 2 call_table_kinds.ps call_table_kinds.r call_table_reads.Learnt (λ κs e. e.1.1.1.0.now)
-call_table_bytes_one κs a x y e g p q = bytes_one p.puts q.puts
+pub call_table_bytes_one : OneRun 3 call_table_kinds.ps call_table_kinds.r call_table_reads.Learnt (λ κs e. e.1.1.1.0.now.bytes.now)
+call_table_bytes_one κs a x y e g p q = bytes_one p.puts.put q.puts.put
 
 -- ---- prefix_words
-pub call_side_one : OneAnswer 2 call_side_kinds.ps call_side_kinds.r call_side_reads.Learnt
-call_side_one κs a x y e g p q = place_one p.puts q.puts
+pub call_side_one : OneRun 3 call_side_kinds.ps call_side_kinds.r call_side_reads.Learnt (λ κs e. e.1.1.0.now.at)
+call_side_one κs a x y e g p q = place_one p.puts.put q.puts.put
 
-pub call_side_bytes_one : OneRun 2 call_side_kinds.ps call_side_kinds.r call_side_reads.Learnt (λ κs e. e.1.1.0.now)
-call_side_bytes_one κs a x y e g p q = bytes_one p.puts q.puts
+pub call_side_bytes_one : OneRun 3 call_side_kinds.ps call_side_kinds.r call_side_reads.Learnt (λ κs e. e.1.1.0.now.bytes.now)
+call_side_bytes_one κs a x y e g p q = bytes_one p.puts.put q.puts.put
 
-pub call_p2r_one : OneAnswer 2 call_p2r_kinds.ps call_p2r_kinds.r call_p2r_reads.Learnt
-call_p2r_one κs a x y e g p q = place_one p.puts q.puts
+pub call_p2r_one : OneRun 3 call_p2r_kinds.ps call_p2r_kinds.r call_p2r_reads.Learnt (λ κs e. e.1.0.now.at)
+call_p2r_one κs a x y e g p q = place_one p.puts.put q.puts.put
 
-pub call_p2r_bytes_one : OneRun 2 call_p2r_kinds.ps call_p2r_kinds.r call_p2r_reads.Learnt (λ κs e. e.1.0.now)
-call_p2r_bytes_one κs a x y e g p q = bytes_one p.puts q.puts
+pub call_p2r_bytes_one : OneRun 3 call_p2r_kinds.ps call_p2r_kinds.r call_p2r_reads.Learnt (λ κs e. e.1.0.now.bytes.now)
+call_p2r_bytes_one κs a x y e g p q = bytes_one p.puts.put q.puts.put
 
-pub call_r2p_one : OneAnswer 2 call_r2p_kinds.ps call_r2p_kinds.r call_r2p_reads.Learnt
-call_r2p_one κs a x y e g p q = place_one p.0.puts q.0.puts
+pub call_r2p_one : OneRun 3 call_r2p_kinds.ps call_r2p_kinds.r call_r2p_reads.Learnt (λ κs e. e.1.0.now.at)
+call_r2p_one κs a x y e g p q = place_one p.0.puts.put q.0.puts.put
 
-pub call_r2p_bytes_one : OneRun 2 call_r2p_kinds.ps call_r2p_kinds.r call_r2p_reads.Learnt (λ κs e. e.1.0.now)
-call_r2p_bytes_one κs a x y e g p q = bytes_one p.0.puts q.0.puts
+pub call_r2p_bytes_one : OneRun 3 call_r2p_kinds.ps call_r2p_kinds.r call_r2p_reads.Learnt (λ κs e. e.1.0.now.bytes.now)
+call_r2p_bytes_one κs a x y e g p q = bytes_one p.0.puts.put q.0.puts.put
 
 -- the line's numbers afterwards are one too
-pub call_r2p_numbers_one : OneRun 2 call_r2p_kinds.ps call_r2p_kinds.r call_r2p_reads.Learnt (λ κs e. e.0.now)
+pub call_r2p_numbers_one : OneRun 3 call_r2p_kinds.ps call_r2p_kinds.r call_r2p_reads.Learnt (λ κs e. e.0.now)
 call_r2p_numbers_one κs a x y e g p q = p.1 ∙ sym q.1

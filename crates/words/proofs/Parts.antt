@@ -1,10 +1,10 @@
 -- Laws of the parts of a line's numbers (`specs/Parts.antt`).
 --     run_told, narrow_told, exact_told, list_told, table_told, tables_told       what an end tells
 --     narrow_asked                              of a run of 16-bit numbers, which is what a call asks
---     last_is, last_told                        such a run that is the last part
+--     LastTo, last_told                         such a run that is the last part
 --     tables_cut, tables_are                    where a list and a table end, as the code finds them
+--     table_few                                 such a table has no more numbers than it may
 --     list_over, tables_over                    too many numbers
---     tables_asked                              which is what a call asks
 -- Assumes nothing.
 use Prim.Native.Nat.{ℕ, ◌+◌, ◌≤◌, ◌<◌}
 use mathlib.Core.Bool.{Bool, true, false}
@@ -19,7 +19,7 @@ use Rattle.std.specs.Bool.{then_some}
 use Rattle.ranges.specs.Numbers.{pick}
 use Rattle.ranges.proofs.Numbers.{never}
 use Rattle.words.specs.Limits.{list_most, table_most}
-use Rattle.words.specs.Parts.{from_to, run_end, RunTo, exactly, list_end, on_end, all_narrow, narrow_end, NarrowTo, Narrow, table_ends, Tabled}
+use Rattle.words.specs.Parts.{from_to, run_end, RunTo, exactly, list_end, on_end, all_narrow, narrow_end, NarrowTo, Narrow, table_ends, TableTo}
 
 -- ---- where a run ends
 pub run_told : (most : ℕ) (ns : List ℕ) (at : ℕ) {e : ℕ} → run_end most ns at ≡ Some e → RunTo most ns at e
@@ -71,13 +71,18 @@ module _ (ns : List ℕ) (more : ℕ) (end : Option ℕ) where
       go (Some x) is told = test is (eqb (length ns) (x + more)) refl told
       go None is told = never (cc)
 
--- a run of 16-bit numbers that is the last part: x and y are what callees gave
-module _ (most : ℕ) (ns : List ℕ) (at : ℕ) {x y : Option ℕ} (is_x : x ≡ narrow_end most ns at) (is_y : y ≡ exactly ns 0 x) where
-  pub last_is : {z : Option ℕ} → y ≡ z → exactly ns 0 (narrow_end most ns at) ≡ z
-  last_is e = ap (exactly ns 0) (sym is_x) ∙ sym is_y ∙ e
+-- what the end of a run of 16-bit numbers tells that is the last part
+pub record LastTo (most : ℕ) (ns : List ℕ) (at e : ℕ) : Type 0 where
+  pub begun : at + 1 ≤ e
+  pub few : e ≤ at + 1 + most
+  pub follow : length ns ≡ e
+  pub asked : Narrow most (from_to (at + 1) e ns)
 
-  pub last_told : {e : ℕ} → y ≡ Some e → NarrowTo most ns at e
-  last_told e = narrow_told most ns at (exact_told ns 0 (narrow_end most ns at) (last_is e)).0
+pub last_told : (most : ℕ) (ns : List ℕ) (at : ℕ) {e : ℕ} → exactly ns 0 (narrow_end most ns at) ≡ Some e → LastTo most ns at e
+last_told most ns at {e} is =
+    let whole = exact_told ns 0 (narrow_end most ns at) is in
+    let told = narrow_told most ns at whole.0 in
+    record { begun = told.run.begun; few = told.run.few; follow = omega (arith, whole.1); asked = narrow_asked told }
 
 -- ---- D LIST
 -- what the end of a list tells: it stands in the numbers from place 2 on, is not too long, and exactly so many numbers more follow
@@ -129,31 +134,19 @@ module _ (ns : List ℕ) (more : ℕ) {e : ℕ} (at-list : Some e ≡ run_end li
   tables_are at true narrow = rw (sym at-list, ← ran, sym at, sym narrow)
   tables_are at false wide = rw (sym at-list, ← ran, sym at, sym wide)
 
--- what the ends of a list and a table tell: the list stands from place 2 on and is not too long, the table stands after its length,
--- and its numbers are of 16 bits
-pub record TableTo (ns : List ℕ) (more e t : ℕ) : Type 0 where
-  pub is : table_ends ns more ≡ Some (e, t)
-  pub begun : 2 ≤ e
-  pub few : e ≤ 2 + list_most
-  pub after : e + 1 ≤ t
-  pub few_table : t ≤ e + 1 + table_most
-  pub follow : length ns ≡ t + more
-  pub narrow : all_narrow (from_to (e + 1) t ns) ≡ true
-
 -- the ends, where the list ends at x and the table's end is s
 abbrev ends_at : List ℕ → ℕ → Option ℕ → Option (ℕ × ℕ)
 ends_at ns x s = on_end s (λ y. pick (all_narrow (from_to (x + 1) y ns)) (Some (x, y)) None) None
 
-pub tables_told : (ns : List ℕ) (more : ℕ) {e t : ℕ} → Some (e, t) ≡ table_ends ns more → TableTo ns more e t
+pub tables_told : (ns : List ℕ) (more : ℕ) {e t : ℕ} → table_ends ns more ≡ Some (e, t) → TableTo ns more e t
 unfolding table_ends
-tables_told ns more {e} {t} told = go (run_end list_most ns 1) refl (sym told)
+tables_told ns more {e} {t} told = go (run_end list_most ns 1) refl told
   where
     last : {x y : ℕ} → RunTo list_most ns 1 x → exactly ns more (run_end table_most ns x) ≡ Some y → (b : Bool) → all_narrow (from_to (x + 1) y ns) ≡ b → pick {A = Option (ℕ × ℕ)} b (Some (x, y)) None ≡ Some (e, t) → TableTo ns more e t
     last {x} {y} list at true narrow is =
         let both : ◌≡◌ {A = ℕ × ℕ} (x, y) (e, t) = cc in
         let table = table_told ns more refl refl at in
         rw (← ap (λ q. q.0) both, ← ap (λ q. q.1) both) (record {
-          is = sym told ∙ sym is;
           begun = list.begun;
           few = list.few;
           after = table.after;
@@ -171,14 +164,9 @@ tables_told ns more {e} {t} told = go (run_end list_most ns 1) refl (sym told)
     go (Some x) at is = next (run_told list_most ns 1 at) (exactly ns more (run_end table_most ns x)) refl is
     go None at is = never (cc)
 
--- so the table's numbers and those that follow are as a call asks
-pub tables_asked : {ns : List ℕ} {more e t k : ℕ} → TableTo ns more e t → more ≡ k → Tabled (from_to (e + 1) t ns) (from_to t (t + more) ns) k
-tables_asked {ns} {more} {e} {t} {k} so is =
-    record {
-      few = simp (length-take, length-drop) (omega (arith, so.few_table));
-      narrow = so.narrow;
-      follow = simp (length-take, length-drop) (omega (arith, so.follow));
-    }
+-- such a table has no more numbers than it may
+pub table_few : {ns : List ℕ} {more e t : ℕ} → TableTo ns more e t → length (from_to (e + 1) t ns) ≤ table_most
+table_few so = simp (length-take, length-drop) (omega (arith, so.few_table))
 
 -- more numbers than a list, a table and what follows them may have
 pub tables_over : (ns : List ℕ) (more : ℕ) → 3 + list_most + table_most + more < length ns → table_ends ns more ≡ None
@@ -186,6 +174,6 @@ tables_over ns more over = go (table_ends ns more) refl
   where
     go : (x : Option (ℕ × ℕ)) → table_ends ns more ≡ x → table_ends ns more ≡ None
     go (Some p) is =
-        let told = tables_told ns more {e = p.0} {t = p.1} (sym is) in
+        let told = tables_told ns more {e = p.0} {t = p.1} is in
         absurd (omega arith)
     go None is = is

@@ -7,16 +7,18 @@ use mathlib.Core.Path.{◌≡◌, refl, ap, ◌∙◌}
 use native.Mathlib.Omega.{arith}
 use borrow.Author.Tests.{le-leb, lt-leb, eq-eqb, ne_eqb, leb-true, ltb-false}
 use lib.Dec.{ltb, leb, eqb}
-use Rattle.std.specs.Prelude.{Option, Some, None}
+use Rattle.std.specs.Prelude.{Option, Some, None, Result, Ok, Err}
 use Rattle.ranges.specs.Numbers.{pick, ◌and◌}
-use Rattle.ranges.specs.Refusals.{none, refused_at, stands, TooLittleRoom}
+use Rattle.ranges.specs.Refusals.{Fault, none, refused_at, stands, or_else}
+use Rattle.ranges.specs.declared.refusal.Cause.TheVariants.{TooLittleRoom}
 use Rattle.ranges.proofs.Numbers.{never, and_fails}
 use Rattle.ranges.proofs.Passes.{written-length}
 use lib.ListN.{length, get_or, take, drop, length-append, length-take, length-drop}
 use borrow.Rule.Slice.PartMut.{put_mid}
-use Rattle.ranges.specs.declared.refusal.Count.{Count}
-use Rattle.ranges.specs.Blocks.{prefixes_of, range_fault, room_fault, run_after}
-use Rattle.text.specs.Puts.{Put}
+use Rattle.ranges.specs.declared.refusal.Refusal.{Refusal}
+use Rattle.ranges.specs.Blocks.{prefixes_of, range_fault, room_fault, written, run_after}
+use Rattle.text.specs.Puts.{Puts}
+use Rattle.text.specs.declared.put.Out.{Out}
 use Rattle.words.specs.Limits.{list_most, choice_most, table_most, run_most, line_room, answer_most}
 use Rattle.phrases.specs.Few.{PutFew, PutAll}
 use Rattle.words.specs.Parts.{from_to, run_end, RunTo, exactly, on_end, narrow_end}
@@ -25,16 +27,15 @@ use Rattle.words.specs.declared.choice_words.ChoiceWord.TheVariants.{Choose, Lay
 use Rattle.phrases.specs.Said.{all_spaced, count_said}
 use Rattle.words.specs.Words.{bad_said, choose_from, choose_said, layout_after, layout_from, layout_said, choice_said, expanded_said, r2p_stands, r2p_said, r2p_left}
 use Rattle.words.proofs.Lent.{rest_lent, rest_long, rest_back}
-use Rattle.words.proofs.Parts.{run_told, narrow_told, exact_told}
+use Rattle.words.proofs.Parts.{run_told, narrow_told, last_told}
 use Rattle.words.proofs.Longest.{table_most_lem}
 use Rattle.phrases.proofs.Few.{few_text, few_then, few_more}
 
--- ---- build and r2p
+-- ---- choose, layout, build and r2p
 -- the count, a word and the numbers, as the library left them
-pub counted_put : (word : List ℕ) {count is : Count} {ns left : List ℕ} {n : ℕ} → count ≡ is → ns ≡ left → length ns ≡ n
-    → {out : List ℕ} {at : ℕ} {mid : List ℕ} {a : ℕ} → PutFew 70 out at (count_said count) mid a
-    → {mid' : List ℕ} {b : ℕ} → Put mid a word mid' b → {after : List ℕ} {end : ℕ} → PutAll ns mid' b after end
-    → PutFew (70 + length word + 21 * n) out at (count_said is ++ word ++ all_spaced left) after end
+pub counted_put : (word : List ℕ) {count is : Result ℕ Refusal} {ns left : List ℕ} {n : ℕ} → count ≡ is → ns ≡ left → length ns ≡ n
+    → {o p q r : Out} → PutFew 70 o (count_said count) p → Puts p word q → PutAll ns q r
+    → PutFew (70 + length word + 21 * n) o (count_said is ++ word ++ all_spaced left) r
 counted_put word answers leaves long count text numbers =
     rw (← answers, ← leaves, ← long) (few_then (few_then count (few_text (length word) (omega arith) text)) numbers)
 
@@ -46,10 +47,7 @@ module _ (ns : List ℕ) (over : line_room < length ns) where
   last_over most at short = go (exactly ns 0 (narrow_end most ns at)) refl
     where
       go : (x : Option ℕ) → exactly ns 0 (narrow_end most ns at) ≡ x → x ≡ None
-      go (Some e) is =
-          let told = exact_told ns 0 (narrow_end most ns at) is in
-          let run = (narrow_told most ns at told.0).run in
-          absurd (omega (arith, told.1))
+      go (Some e) is = let told = last_told most ns at is in absurd (omega arith)
       go None is = refl
 
   choose_over : (dates : ℕ) → choose_said dates ns ≡ bad_said
@@ -89,17 +87,21 @@ module _ (k : ℕ) (ns said : List ℕ) where
 room_told : (m : ℕ) (run : List ℕ) → stands (room_fault m run) ≡ true → m * 2 ≤ length run
 room_told m run = go (ltb (length run / 2) m) refl
   where
-    go : (t : Bool) → ltb (length run / 2) m ≡ t → stands (pick t (refused_at TooLittleRoom m 0) none) ≡ true → m * 2 ≤ length run
+    go : (t : Bool) → ltb (length run / 2) m ≡ t → stands {A = Unit} (pick t (refused_at TooLittleRoom m 0) none) ≡ true → m * 2 ≤ length run
     go true e is = never (cc)
     go false e is = let le = ltb-false (length run / 2) m e in omega arith
 
 pub run_long : (w low high : ℕ) (run : List ℕ) → length (run_after w low high run) ≡ length run
-run_long w low high run = go (stands (range_fault w low high)) (stands (room_fault (length (prefixes_of w low high)) run)) refl refl
+run_long w low high run = go (range_fault w low high) refl
   where
-    go : (s t : Bool) → stands (range_fault w low high) ≡ s → stands (room_fault (length (prefixes_of w low high)) run) ≡ t → length (run_after w low high run) ≡ length run
-    go true true p q = rw (p, q) (written-length (prefixes_of w low high) run (room_told (length (prefixes_of w low high)) run q))
-    go true false p q = rw (p, q)
-    go false t p q = rw (p, p)
+    room : (t : Bool) → stands (room_fault (length (prefixes_of w low high)) run) ≡ t → length (pick t (written (prefixes_of w low high) run) run) ≡ length run
+    room true e = written-length (prefixes_of w low high) run (room_told (length (prefixes_of w low high)) run e)
+    room false e = refl
+
+    go : (x : Fault) → range_fault w low high ≡ x
+        → length (pick (stands (or_else x (room_fault (length (prefixes_of w low high)) run))) (written (prefixes_of w low high) run) run) ≡ length run
+    go (Ok u) is = room (stands (room_fault (length (prefixes_of w low high)) run)) refl
+    go (Err x) is = refl
 
 -- whether the numbers are as the word wants them
 module _ (ns : List ℕ) where
@@ -133,14 +135,13 @@ module _ (ns : List ℕ) where
 
 -- what is answered and left, way by way
 module _ (ns : List ℕ) where
-  pub r2p_bad : r2p_stands ns ≡ false → {out : List ℕ} {at : ℕ} {after : List ℕ} {end : ℕ} → PutFew 70 out at bad_said after end
-      → PutFew (answer_most - 1) out at (r2p_said ns) after end × (ns ≡ r2p_left ns)
+  pub r2p_bad : r2p_stands ns ≡ false → {o p : Out} → PutFew 70 o bad_said p → PutFew (answer_most - 1) o (r2p_said ns) p × (ns ≡ r2p_left ns)
   r2p_bad e put = (rw e (few_more (omega arith) put), rw e refl)
 
-  pub r2p_made : 4 ≤ length ns → get_or ns 3 0 ≤ run_most → length ns ≡ 4 + get_or ns 3 0 → {left out : List ℕ} {at : ℕ} {after : List ℕ} {end : ℕ}
-      → PutFew (74 + 21 * length (from_to 4 (length ns) ns)) out at (expanded_said (get_or ns 2 0) (get_or ns 0 0) (get_or ns 1 0) (from_to 4 (length ns) ns)) after end
+  pub r2p_made : 4 ≤ length ns → get_or ns 3 0 ≤ run_most → length ns ≡ 4 + get_or ns 3 0 → {left : List ℕ} {o p : Out}
+      → PutFew (74 + 21 * length (from_to 4 (length ns) ns)) o (expanded_said (get_or ns 2 0) (get_or ns 0 0) (get_or ns 1 0) (from_to 4 (length ns) ns)) p
       → left ≡ run_after (get_or ns 2 0) (get_or ns 0 0) (get_or ns 1 0) (from_to 4 (length ns) ns)
-      → PutFew (answer_most - 1) out at (r2p_said ns) after end × (put_mid 4 (length ns - 4) ns left ≡ r2p_left ns)
+      → PutFew (answer_most - 1) o (r2p_said ns) p × (put_mid 4 (length ns - 4) ns left ≡ r2p_left ns)
   r2p_made le few all {left} put is =
       let stands = r2p_call ns le few all in
       let size : length (from_to 4 (length ns) ns) ≤ run_most = omega (arith, rest_long ns 4) in

@@ -62,11 +62,14 @@ table_ends ns more =
     (λ e. on_end (exactly ns more (run_end table_most ns e)) (λ t. pick (all_narrow (from_to (e + 1) t ns)) (Some (e, t)) None) None)
     None
 
--- what a call of a list and a table asks of its table's numbers and of those that follow
-pub record Tabled (numbers rest : List ℕ) (more : ℕ) : Type 0 where
-  pub few : length numbers ≤ table_most
-  pub narrow : all_narrow numbers ≡ true
-  pub follow : length rest ≡ more
+-- what their ends tell: the list stands from place 2 on and is not too long, nor is the table, which stands after its length
+pub record TableTo (ns : List ℕ) (more e t : ℕ) : Type 0 where
+  pub begun : 2 ≤ e
+  pub few : e ≤ 2 + list_most
+  pub after : e + 1 ≤ t
+  pub few_table : t ≤ e + 1 + table_most
+  pub follow : length ns ≡ t + more
+  pub narrow : all_narrow (from_to (e + 1) t ns) ≡ true
 
 -- what a run of 16-bit numbers is that may have so many
 pub record Narrow (most : ℕ) (numbers : List ℕ) : Type 0 where

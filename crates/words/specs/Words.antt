@@ -102,11 +102,12 @@ table_said Lookup R T rest = lookup_said R T rest
 table_said Audit R T rest = audit_said R T
 table_said Report R T rest = report_said R T (get_or rest 0 0)
 
+-- the list ends at place e, and the table at place t
+abbrev pub tabled_from : TableWord → ℕ → List ℕ → ℕ → ℕ → List ℕ
+tabled_from word dates ns e t = table_said word (rules_to dates e ns) (from_to (e + 1) t ns) (from_to t (t + following word) ns)
+
 abbrev pub tabled_said : TableWord → ℕ → List ℕ → List ℕ
-tabled_said word dates ns =
-    on_ends (table_ends ns (following word))
-    (λ e t. table_said word (rules_to dates e ns) (from_to (e + 1) t ns) (from_to t (t + following word) ns))
-    bad_said
+tabled_said word dates ns = on_ends (table_ends ns (following word)) (tabled_from word dates ns) bad_said
 
 -- ---- side D FIELD LOW HIGH NUMBER
 -- the range is that of a rule in FIELD, one of dates where its flag says so, whatever D is

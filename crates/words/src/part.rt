@@ -1,10 +1,11 @@
 // The parts of a line's numbers, by their places: D is the first; LIST, TABLE and RUN are a length and then that many
 // numbers; HEADER is eight numbers. A part's end is the place after its last number; None, where the numbers are not as the part wants them.
-ghost use Rattle.std.specs.Prelude.{true, ◌≡◌, ◌<◌, length};
-ghost use Rattle.words.specs.Parts.{run_end, exactly, list_end, all_narrow, narrow_end, table_ends, shape_in};
+ghost use Rattle.std.specs.Prelude.{true, ◌≡◌, ◌<◌, ◌≤◌, length};
+ghost use Rattle.lists.specs.Rules.{lent};
+ghost use Rattle.words.specs.Parts.{run_end, exactly, list_end, all_narrow, narrow_end, table_ends, shape_in, rules_to};
 
 use crate::limits::{LIST_MOST, TABLE_MOST};
-use lists::shape::Shape;
+use lists::shape::{RuleList, Shape};
 
 // Says where the run from a place on ends: a length, at most `most`, and then that many numbers.
 #[tactic(auto, unfolding(crate::specs::Parts::run_end))]
@@ -56,6 +57,14 @@ pub fn narrow_end(most: usize, given: &[u32], at: usize) -> Option<usize>
     all_narrow(&given[from..e]).then_some(e)
 }
 
+// Says the same where no number follows the run.
+pub(crate) fn last_end(most: usize, given: &[u32], at: usize) -> Option<usize>
+    ensures { result ≡ exactly given.now 0 (narrow_end most given.now at) }
+{
+    let end = narrow_end(most, given, at);
+    exact(end, given, 0)
+}
+
 // Says where the list and the table of D LIST TABLE end, with exactly so many numbers more after them.
 #[tactic(auto, using(crate::proofs::Parts::run_told), unfolding(crate::specs::Parts::table_ends))]
 pub fn table_ends(given: &[u32], more: usize) -> Option<(usize, usize)>
@@ -86,6 +95,17 @@ pub(crate) fn shape_in(dates: u32, given: &[u32]) -> Shape
     Shape {
         d: given[0] as usize,
         dates,
+    }
+}
+
+// Gives the list of D LIST, which ends at place e, with the shape of D.
+pub(crate) fn list_in(dates: u32, given: &[u32], e: usize) -> RuleList
+    requires { 2 ≤ e × e ≤ length given.now }
+    ensures { lent result ≡ rules_to dates e given.now }
+{
+    RuleList {
+        shape: shape_in(dates, given),
+        numbers: &given[2..e],
     }
 }
 

@@ -1,22 +1,11 @@
--- `words::choice_words::choose_from` meets its contract.
--- Assumes nothing.
+-- The answers that the check does not find alone: the run begins before its end, by what that tells.
+use mathlib.Core.Path.{sym}
 use native.Mathlib.Omega.{arith}
-use Rattle.words.proofs.Longest.{table_most_lem}
-use Rattle.words.proofs.Parts.{narrow_asked, last_is, last_told}
-use Rattle.phrases.proofs.Few.{few_more}
+use Rattle.words.proofs.Parts.{last_told}
 use Rattle.words.proofs.choice_words.choose_from.Goals as goal
 
-pub slice_bounds-put_choice-count-2 : goal.slice_bounds-put_choice-count-2
-slice_bounds-put_choice-count-2 c = omega (arith, (last_told _ _ _ c.narrow_end.ensures c.exact.ensures c.in-Some.is))
+pub slice_bounds-put_choice-count : goal.slice_bounds-put_choice-count
+slice_bounds-put_choice-count c = omega (arith, last_told _ _ _ (sym c.in-Some.ensures))
 
-pub slice_bounds-put_choice-start-2 : goal.slice_bounds-put_choice-start-2
-slice_bounds-put_choice-start-2 c = omega (arith, (last_told _ _ _ c.narrow_end.ensures c.exact.ensures c.in-Some.is))
-
-pub put_choice-requires : goal.put_choice-requires
-put_choice-requires c = narrow_asked (last_told _ _ _ c.narrow_end.ensures c.exact.ensures c.in-Some.is)
-
-pub returns : goal.returns
-returns c =
-    let asked = narrow_asked (last_told _ _ _ c.narrow_end.ensures c.exact.ensures c.in-Some.is) in
-    rw (last_is _ _ _ c.narrow_end.ensures c.exact.ensures c.in-Some.is)
-    (few_more (omega (arith, table_most_lem, asked.few)) (rw c.shape_in.ensures at c.put_choice.ensures))
+pub slice_bounds-put_choice-start : goal.slice_bounds-put_choice-start
+slice_bounds-put_choice-start c = omega (arith, last_told _ _ _ (sym c.in-Some.ensures))

@@ -1,9 +1,11 @@
--- `words::choice_words::put_laid` meets its contract: the count, the word, and the table as the library left it.
--- Assumes nothing.
-use Rattle.text.specs.Texts.{bytes}
-use Rattle.words.proofs.Words.{counted_put}
+-- The answers that the check does not find alone: the room is as long as the longest table.
+use mathlib.Core.Path.{sym}
+use Rattle.words.proofs.Longest.{table_most_lem}
+use Rattle.words.proofs.Narrowing.{room_enough}
 use Rattle.words.proofs.choice_words.put_laid.Goals as goal
 
-pub returns : goal.returns
-returns c =
-    counted_put (bytes " table") c.lay_out-count.ensures.answers c.lay_out-count.ensures.leaves c.lay_out-count.auto.table c.put_count-a.ensures c.put_text-b.ensures c.put_table.ensures
+pub slice_bounds-table-end : goal.slice_bounds-table-end
+slice_bounds-table-end c = room_enough c.args.numbers.now table_most_lem c.requires.few
+
+pub narrow-requires-clause-table_len : goal.narrow-requires-clause-table_len
+narrow-requires-clause-table_len c = sym (room_enough c.args.numbers.now table_most_lem c.requires.few)

@@ -6,4 +6,4 @@ use Rattle.words.proofs.prefix_words.put_expanded.Goals as goal
 
 pub returns : goal.returns
 returns c =
-    record { put_few = counted_put (bytes " run") c.range_to_prefixes-count.ensures.value c.range_to_prefixes-count.ensures.out_after c.range_to_prefixes-count.auto.out c.put_count-a.ensures c.put_text-b.ensures c.put_all.ensures; run_after = c.range_to_prefixes-count.ensures.out_after }
+    record { put_few = counted_put (bytes " run") c.range_to_prefixes-count.ensures.value c.range_to_prefixes-count.ensures.out_after c.range_to_prefixes-count.auto.out c.put_count.ensures c.text.ensures c.put_all.ensures; run_after = c.range_to_prefixes-count.ensures.out_after }

@@ -1,19 +1,12 @@
--- `words::table_words::put_tabled` meets its contract: the table is the first part of its room, where its numbers are written.
--- Assumes nothing.
+-- The answers that the check does not find alone: the room is as long as the longest table.
 use mathlib.Core.Path.{sym}
-use native.Mathlib.Omega.{arith}
 use Rattle.words.proofs.Longest.{table_most_lem}
 use Rattle.words.proofs.Narrowing.{room_enough}
+use Rattle.words.proofs.Parts.{table_few}
 use Rattle.words.proofs.table_words.put_tabled.Goals as goal
 
 pub slice_bounds-table-end : goal.slice_bounds-table-end
-slice_bounds-table-end c =
-    omega (arith, table_most_lem)
+slice_bounds-table-end c = room_enough _ table_most_lem (table_few c.requires)
 
-pub slice_bounds-narrow-end : goal.slice_bounds-narrow-end
-slice_bounds-narrow-end c =
-    room_enough c.args.numbers.now table_most_lem c.requires.few
-
-pub narrow-requires : goal.narrow-requires
-narrow-requires c =
-    record { table_len = sym (room_enough c.args.numbers.now table_most_lem c.requires.few); narrow_numbers = c.requires.narrow }
+pub narrow-requires-clause-table_len : goal.narrow-requires-clause-table_len
+narrow-requires-clause-table_len c = sym (room_enough _ table_most_lem (table_few c.requires))
