@@ -15,8 +15,9 @@ use Rattle.lists.specs.Rules.{Rules, fields_of, rules_in}
 use Rattle.tables.specs.Layout.{view}
 use Rattle.tables.specs.Opening.{view_of, open_fault}
 use Rattle.tables.proofs.Opened.{Opened, opened}
+use Rattle.tables.specs.declared.read.Table.{Table}
 use Rattle.lookup.specs.Lent.{Ready}
-use Rattle.lookup.specs.Lookup.{turn_of, lookup_from, search_of, lookup_of}
+use Rattle.lookup.specs.Lookup.{search_of, lookup_of}
 use Rattle.lookup.specs.declared.lookup.Looked.{Looked}
 
 module _ (R : Rules) (T h : List ℕ) where
@@ -28,11 +29,7 @@ module _ (R : Rules) (T h : List ℕ) where
   unfolding lookup_of
   lookup_searches z = rw z
 
--- a list and a table that open are ready for a walk
-pub opened_ready : (R : Rules) (T : List ℕ) → Opened R T → (m : ℕ) → m ≡ rules_in R → Ready R m T
-opened_ready R T o m is_m = record { rules = is_m; shape_stands = o.shape_stands; sized = rw is_m o.sized }
-
--- ---- as the code works it out: the opening refused nothing, and m is the number of rules
+-- ---- as the code works it out: the opening refused nothing, and the table is lent with room for m rules, the list's
 module _ (R : Rules) (T : List ℕ) (opens : none ≡ open_fault R T) where
   pub by_opened : Opened R T
   by_opened = opened R T (sym opens)
@@ -41,12 +38,12 @@ module _ (R : Rules) (T : List ℕ) (opens : none ≡ open_fault R T) where
     pub by_few : m ≤ most_rules
     by_few = omega (arith, by_opened.shape_stands.few_rules, is_m)
 
-    pub by_ready : Ready R m T
-    by_ready = opened_ready R T by_opened m is_m
+    pub by_parts : (view m (fields_of R) T).b ≤ m
+    by_parts = omega (arith, by_opened.few_parts, is_m)
 
-    pub by_parts : {b : ℕ} → b ≡ (view_of R T).b → b ≤ m
-    by_parts is_b = omega (arith, by_opened.few_parts, is_m, is_b)
+    pub by_search : (h : List ℕ) (w : Result Looked Refusal) → w ≡ search_of R (view m (fields_of R) T) h → w ≡ lookup_of R T h
+    by_search h w is = (rw is_m at is) ∙ sym (lookup_searches R T h (sym opens))
 
-    pub by_search : {b : ℕ} → b ≡ (view_of R T).b → (h : List ℕ) (w : Result Looked Refusal) → w ≡ lookup_from R h (turn_of R (view m (fields_of R) T) h) b 0 m 0
-        → w ≡ lookup_of R T h
-    by_search is_b h w is = (rw (is_m, is_b) at is) ∙ sym (lookup_searches R T h (sym opens))
+  pub by_ready : (t : Table) → t.room ≡ rules_in R → t.d ≡ fields_of R → t.numbers.now ≡ T → Ready R t
+  by_ready t room fields numbers =
+      record { rules = room; fields = fields; shape_stands = by_opened.shape_stands; sized = rw (room, fields, numbers) by_opened.sized }

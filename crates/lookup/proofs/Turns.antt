@@ -25,7 +25,7 @@ use Rattle.lists.specs.Edges.{rule_edge}
 use Rattle.lists.proofs.Edges.{edge_listed}
 use Rattle.tables.specs.Layout.{View}
 use Rattle.lookup.specs.Walk.{Walked, ran, broken_walk}
-use Rattle.lookup.specs.Lookup.{skips, turn_of, visit_of, better, sooner, answer_of, lookup_from, matched, unmatched}
+use Rattle.lookup.specs.Lookup.{skips, turn_of, visit_of, better, sooner, answer_of, lookup_from, search_of, matched, unmatched}
 use Rattle.lookup.specs.Bounds.{candidate, turn_made}
 use Rattle.lookup.specs.declared.lookup.Looked.{Looked}
 use Rattle.lookup.proofs.Visits.{visit_few}
@@ -89,6 +89,10 @@ visited_none R v h n b is_n =
       of_list = λ i is. never (cc);
       rest = λ k is. let is_b : b ≡ k = omega arith in ap (λ j. lookup_from R h (turn_of R v h) j 0 n 0) is_b;
     }
+
+-- n and b are what was read
+pub searched : (R : Rules) (v : View) (h : List ℕ) {n b : ℕ} → n ≡ rules_in R → b ≡ v.b → lookup_from R h (turn_of R v h) b 0 n 0 ≡ search_of R v h
+searched R v h is_n is_b = rw (is_n, is_b)
 
 -- of two candidates of a list of n rules: the smaller one is of that list, and it is the smaller one where n stands for none
 sooner_listed : (n : ℕ) (best found : Option ℕ) → ((i : ℕ) → best ≡ Some i → i < n) → ((i : ℕ) → found ≡ Some i → i < n)

@@ -2,15 +2,17 @@
 -- What the walk is lent: a list and a table that the opening let through, and a group of places of that table. The
 -- functions below `lookup` require these; `lookup` itself requires nothing.
 -- Assumes nothing: these are definitions.
-use Rattle.std.specs.Prelude.{ℕ, ◌+◌, ◌-◌, ◌≤◌, ◌<◌, List, ◌≡◌}
+use Rattle.std.specs.Prelude.{ℕ, ◌+◌, ◌-◌, ◌≤◌, ◌<◌, ◌≡◌}
 use Rattle.lists.specs.Rules.{Rules, fields_of, rules_in, Shaped}
 use Rattle.tables.specs.Layout.{TableFor}
+use Rattle.tables.specs.declared.read.Table.{Table}
 
--- a list of n rules whose shape stands, and a table of the right length
-pub record Ready (R : Rules) (n : ℕ) (T : List ℕ) : Type 0 where
-  pub rules : n ≡ rules_in R
+-- a list whose shape stands, and a table of the right length, which has room for its rules of so many fields
+pub record Ready (R : Rules) (t : Table) : Type 0 where
+  pub rules : t.room ≡ rules_in R
+  pub fields : t.d ≡ fields_of R
   pub shape_stands : Shaped R
-  pub sized : TableFor n (fields_of R) T
+  pub sized : TableFor t.room t.d t.numbers.now
 
 -- a group that is not empty, of places s to before e of n, at a field f of d
 pub record Group (n d s e f : ℕ) : Type 0 where

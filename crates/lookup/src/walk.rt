@@ -1,8 +1,8 @@
 // The walk through one partition.
-ghost use Rattle.std.specs.Prelude.{◌≡◌, ℕ, ◌+◌, ◌-◌, ◌<◌, ◌≤◌, length, get_or};
+ghost use Rattle.std.specs.Prelude.{◌≡◌, ℕ, ◌+◌, ◌-◌, ◌<◌, ◌≤◌, length};
 ghost use Rattle.lists.specs.Rules.{lent, range_at};
 ghost use Rattle.lists.specs.Asked.{HasField};
-ghost use Rattle.tables.specs.Layout.{order_at, order_in, from_at, to_at, view};
+ghost use Rattle.tables.specs.Layout.{order_at, from_at, to_at, seen};
 ghost use Rattle.lookup.specs.Lent.{Ready, Group, Going};
 ghost use Rattle.lookup.specs.Walk.{run_stands, step_of, arrived_of, walk_from};
 ghost use Rattle.lookup.specs.Packed.{packed, unpacked};
@@ -12,6 +12,7 @@ use lists::scan::rule_fits;
 use lists::shape::{RuleList, offset_of};
 use ranges::side::{Range, is_below, is_past};
 use tables::layout::{from_at, order_at, to_at};
+use tables::read::Table;
 
 // What a walk answers: the number of the rule that it found in a partition, or none, with the tests made.
 #[derive(Clone, Copy)]
@@ -34,27 +35,27 @@ pub struct Broken;
 
 // Reads the rule number at place p. A walk reads so often that a test of each place, as the readers of `tables` make it, would
 // cost a lookup a fifth: so it has readers of its own, for places that are known to stand in the table.
-fn rule_in(table: &[u16], p: u16) -> u16
-    requires { order_at p < length table.now }
-    ensures { result ≡ order_in table.now p }
+fn rule_in(table: &Table, p: u16) -> u16
+    requires { order_at p < length table.now.numbers.now }
+    ensures { result ≡ (seen table.now).order p }
 {
-    table[order_at(p)]
+    table.numbers[order_at(p)]
 }
 
-// Reads the run-from of place p and field f of a table of n rules of d fields.
-fn from_in(table: &[u16], n: u16, d: u16, p: u16, f: u16) -> u16
-    requires { from_at n d p f < length table.now }
-    ensures { result ≡ get_or table.now (from_at n d p f) 0 }
+// Reads the run-from of place p and field f.
+fn from_in(table: &Table, p: u16, f: u16) -> u16
+    requires { from_at table.now.room table.now.d p f < length table.now.numbers.now }
+    ensures { result ≡ (seen table.now).from p f }
 {
-    table[from_at(n, d, p, f)]
+    table.numbers[from_at(table.room, table.d, p, f)]
 }
 
-// Reads the run-to of place p and field f of a table of n rules of d fields.
-fn to_in(table: &[u16], n: u16, d: u16, p: u16, f: u16) -> u16
-    requires { to_at n d p f < length table.now }
-    ensures { result ≡ get_or table.now (to_at n d p f) 0 }
+// Reads the run-to of place p and field f.
+fn to_in(table: &Table, p: u16, f: u16) -> u16
+    requires { to_at table.now.room table.now.d p f < length table.now.numbers.now }
+    ensures { result ≡ (seen table.now).to p f }
 {
-    table[to_at(n, d, p, f)]
+    table.numbers[to_at(table.room, table.d, p, f)]
 }
 
 // Gives the range of rule i in field f.
@@ -86,25 +87,23 @@ fn run_stands(s: u16, e: u16, mid: u16, from: u16, to: u16) -> bool
 // group and the field that are left, or that the table is broken where the rule number is n or more or the run may not be trusted.
 fn one_step(
     list: &RuleList,
-    n: u16,
-    table: &[u16],
+    table: &Table,
     header: &[u32; 8],
     s: u16,
     e: u16,
     f: u16,
 ) -> Result<Step, Broken>
-    requires ready { Ready (lent list.now) n table.now }
-    requires group { Group n list.now.shape.d s e f }
-    ensures { result ≡ step_of (lent list.now) (view n list.now.shape.d table.now) header.now s e f }
+    requires ready { Ready (lent list.now) table.now }
+    requires group { Group table.now.room table.now.d s e f }
+    ensures { result ≡ step_of (lent list.now) (seen table.now) header.now s e f }
 {
-    let d = list.shape.d as u16;
     let mid = s + (e - s) / 2;
     let rule = rule_in(table, mid);
-    if n <= rule {
+    if table.room <= rule {
         return Err(Broken);
     }
-    let from = from_in(table, n, d, mid, f);
-    let to = to_in(table, n, d, mid, f);
+    let from = from_in(table, mid, f);
+    let to = to_in(table, mid, f);
     if !run_stands(s, e, mid, from, to) {
         return Err(Broken);
     }
@@ -127,16 +126,15 @@ fn one_step(
 // all d fields once more; or a broken table.
 fn arrive(
     list: &RuleList,
-    n: u16,
-    table: &[u16],
+    table: &Table,
     header: &[u32; 8],
     s: u16,
     e: u16,
     tests: u16,
 ) -> Result<Ran, Broken>
-    requires ready { Ready (lent list.now) n table.now }
-    requires some_places { (s < e) × (e ≤ n) }
-    ensures { result ≡ arrived_of (lent list.now) (view n list.now.shape.d table.now) header.now s e tests }
+    requires ready { Ready (lent list.now) table.now }
+    requires some_places { (s < e) × (e ≤ table.now.room) }
+    ensures { result ≡ arrived_of (lent list.now) (seen table.now) header.now s e tests }
 {
     if e != s + 1 {
         return Err(Broken);
@@ -191,27 +189,26 @@ pub(crate) fn unpack(code: u32) -> Result<Ran, Broken>
 // table, as one number. Calls itself on a smaller group or the next field; group size plus remaining fields falls at each call.
 pub(crate) fn walk(
     list: &RuleList,
-    n: u16,
-    table: &&[u16],
+    table: &Table,
     header: &[u32; 8],
     s: u16,
     e: u16,
     f: u16,
     tests: u16,
 ) -> u32
-    requires ready { Ready (lent list.now) n table.now.now }
-    requires going { Going n list.now.shape.d s e f tests }
-    ensures { (k : ℕ) → (e - s) + (list.now.shape.d - f) < k → result ≡ packed (walk_from (lent list.now) (view n list.now.shape.d table.now.now) header.now k s e f tests) }
+    requires ready { Ready (lent list.now) table.now }
+    requires going { Going table.now.room table.now.d s e f tests }
+    ensures { (k : ℕ) → (e - s) + (table.now.d - f) < k → result ≡ packed (walk_from (lent list.now) (seen table.now) header.now k s e f tests) }
 {
     if e <= s {
         return pack(Ok(Ran { found: None, tests }));
     }
     if list.shape.d <= f as usize {
-        return pack(arrive(list, n, *table, header, s, e, tests));
+        return pack(arrive(list, table, header, s, e, tests));
     }
-    let step = one_step(list, n, *table, header, s, e, f);
+    let step = one_step(list, table, header, s, e, f);
     let Ok(Step { s, e, f }) = step else {
         return pack(Err(Broken));
     };
-    walk(list, n, table, header, s, e, f, tests + 1)
+    walk(list, table, header, s, e, f, tests + 1)
 }

@@ -5,4 +5,4 @@ use Rattle.lookup.proofs.walk.+walk.Given as goal
 
 -- group size plus remaining fields
 abbrev pub decreases-walk : goal.decreases-walk
-decreases-walk l = (l.e - l.s) + (l.list.now.shape.d - l.f)
+decreases-walk l = (l.e - l.s) + (l.table.now.d - l.f)

@@ -5,21 +5,18 @@ use mathlib.Core.Path.{sym, ◌∙◌}
 use native.Mathlib.Omega.{arith}
 use Rattle.ranges.specs.declared.side.Side.TheVariants.{Below, Above, Inside}
 use Rattle.lists.proofs.Fitting.{below_read, above_read, within-read}
-use Rattle.lookup.proofs.Within.{few_fields, order_read, from_read, to_read, field_read}
+use Rattle.lookup.proofs.Within.{order_read, from_read, to_read, field_read}
 use Rattle.lookup.proofs.Steps.{step_beyond, step_astray, step_by}
 use Rattle.lookup.proofs.walk.one_step.Goals as goal
-
-pub overflow_cast-d : goal.overflow_cast-d
-overflow_cast-d c = omega (arith, few_fields c.requires.ready)
 
 pub rule_in-rule-requires : goal.rule_in-rule-requires
 rule_in-rule-requires c =
     order_read c.requires.ready _ (omega arith)
 
 -- no such rule
-pub returns-then-n-rule : goal.returns-then-n-rule
-returns-then-n-rule c =
-    sym (step_beyond _ _ _ _ _ _ _ _ _ c.requires.ready.rules c.rule_in-rule.ensures c.if-n-rule.true)
+pub returns-then-table-rule : goal.returns-then-table-rule
+returns-then-table-rule c =
+    sym (step_beyond _ _ _ _ _ _ _ _ _ c.requires.ready.rules c.rule_in-rule.ensures c.if-table-rule.true)
 
 pub from_in-from-requires : goal.from_in-from-requires
 from_in-from-requires c =
@@ -34,11 +31,11 @@ pub returns-then-not-run_stands : goal.returns-then-not-run_stands
 returns-then-not-run_stands c =
     sym
     (step_astray _ _ _ _ _ _ _ _ _ c.requires.ready.rules c.rule_in-rule.ensures _ _ c.from_in-from.ensures c.to_in-to.ensures
-    c.if-n-rule.false _ c.run_stands.ensures c.if-not-run_stands.true)
+    c.if-table-rule.false _ c.run_stands.ensures c.if-not-run_stands.true)
 
 pub range_at-range-requires : goal.range_at-range-requires
 range_at-range-requires c =
-    field_read c.requires.ready c.rule_in-rule.result c.args.f c.if-n-rule.false c.requires.group.in_row
+    field_read c.requires.ready c.rule_in-rule.result c.args.f c.if-table-rule.false c.requires.group.in_row
 
 -- below
 pub returns-then-is_below : goal.returns-then-is_below
@@ -46,7 +43,7 @@ returns-then-is_below c =
     let a = c.args in
     sym
     (step_by _ _ _ _ _ _ _ _ _ c.requires.ready.rules c.rule_in-rule.ensures _ _ c.from_in-from.ensures c.to_in-to.ensures
-    c.if-n-rule.false Below (sym c.run_stands.ensures ∙ c.if-not-run_stands.false)
+    c.if-table-rule.false Below (sym c.run_stands.ensures ∙ c.if-not-run_stands.false)
     (below_read _ a.header.now _ _ _ c.range_at-range.ensures _ c.is_below.ensures c.if-is_below.true))
 
 -- above
@@ -55,7 +52,7 @@ returns-then-is_past c =
     let a = c.args in
     sym
     (step_by _ _ _ _ _ _ _ _ _ c.requires.ready.rules c.rule_in-rule.ensures _ _ c.from_in-from.ensures c.to_in-to.ensures
-    c.if-n-rule.false Above (sym c.run_stands.ensures ∙ c.if-not-run_stands.false)
+    c.if-table-rule.false Above (sym c.run_stands.ensures ∙ c.if-not-run_stands.false)
     (above_read _ a.header.now _ _ _ c.range_at-range.ensures _ c.is_below.ensures c.if-is_below.false _ c.is_past.ensures c.if-is_past.true))
 
 -- inside
@@ -64,5 +61,5 @@ returns c =
     let a = c.args in
     sym
     (step_by _ _ _ _ _ _ _ _ _ c.requires.ready.rules c.rule_in-rule.ensures _ _ c.from_in-from.ensures c.to_in-to.ensures
-    c.if-n-rule.false Inside (sym c.run_stands.ensures ∙ c.if-not-run_stands.false)
+    c.if-table-rule.false Inside (sym c.run_stands.ensures ∙ c.if-not-run_stands.false)
     (within-read _ a.header.now _ _ _ c.range_at-range.ensures _ c.is_below.ensures c.if-is_below.false _ c.is_past.ensures c.if-is_past.false))
