@@ -7,7 +7,7 @@ use mathlib.Core.Path.{◌≡◌, refl, ap, ◌∙◌}
 use native.Mathlib.Omega.{arith}
 use borrow.Author.Tests.{le-leb, lt-leb, eq-eqb, ne_eqb, leb-true, ltb-false}
 use lib.Dec.{ltb, leb, eqb}
-use Rattle.std.specs.Prelude.{Option, Some, None, Result, Ok, Err}
+use Rattle.std.specs.Prelude.{Option, Some, None, Ok, Err}
 use Rattle.ranges.specs.Numbers.{pick, ◌and◌}
 use Rattle.ranges.specs.Refusals.{Fault, none, refused_at, stands, or_else}
 use Rattle.ranges.specs.declared.refusal.Cause.TheVariants.{TooLittleRoom}
@@ -15,7 +15,6 @@ use Rattle.ranges.proofs.Numbers.{never, and_fails}
 use Rattle.ranges.proofs.Passes.{written-length}
 use lib.ListN.{length, get_or, take, drop, length-append, length-take, length-drop}
 use borrow.Rule.Slice.PartMut.{put_mid}
-use Rattle.ranges.specs.declared.refusal.Refusal.{Refusal}
 use Rattle.ranges.specs.Blocks.{prefixes_of, range_fault, room_fault, written, run_after}
 use Rattle.text.specs.Puts.{Puts}
 use Rattle.text.specs.declared.put.Out.{Out}
@@ -24,7 +23,7 @@ use Rattle.phrases.specs.Few.{PutFew, PutAll}
 use Rattle.words.specs.Parts.{from_to, run_end, RunTo, exactly, on_end, narrow_end}
 use Rattle.words.specs.declared.choice_words.ChoiceWord.{ChoiceWord}
 use Rattle.words.specs.declared.choice_words.ChoiceWord.TheVariants.{Choose, Layout}
-use Rattle.phrases.specs.Said.{all_spaced, count_said}
+use Rattle.phrases.specs.Said.{all_spaced}
 use Rattle.words.specs.Words.{bad_said, choose_from, choose_said, layout_after, layout_from, layout_said, choice_said, expanded_said, r2p_stands, r2p_said, r2p_left}
 use Rattle.words.proofs.Lent.{rest_lent, rest_long, rest_back}
 use Rattle.words.proofs.Parts.{run_told, narrow_told, last_told}
@@ -32,12 +31,10 @@ use Rattle.words.proofs.Longest.{table_most_lem}
 use Rattle.phrases.proofs.Few.{few_text, few_then, few_more}
 
 -- ---- choose, layout, build and r2p
--- the count, a word and the numbers, as the library left them
-pub counted_put : (word : List ℕ) {count is : Result ℕ Refusal} {ns left : List ℕ} {n : ℕ} → count ≡ is → ns ≡ left → length ns ≡ n
-    → {o p q r : Out} → PutFew 70 o (count_said count) p → Puts p word q → PutAll ns q r
-    → PutFew (70 + length word + 21 * n) o (count_said is ++ word ++ all_spaced left) r
-counted_put word answers leaves long count text numbers =
-    rw (← answers, ← leaves, ← long) (few_then (few_then count (few_text (length word) (omega arith) text)) numbers)
+-- what is said of the count, a word and the numbers
+pub counted_put : (word ns : List ℕ) {said : List ℕ} {o p q r : Out} → PutFew 70 o said p → Puts p word q → PutAll ns q r
+    → PutFew (70 + length word + 21 * length ns) o (said ++ word ++ all_spaced ns) r
+counted_put word ns count text numbers = few_then (few_then count (few_text (length word) (omega arith) text)) numbers
 
 -- ---- choose and layout
 -- more numbers than they take

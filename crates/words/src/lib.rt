@@ -4,8 +4,8 @@
 // `phrases` for what it puts.
 //
 // A word is one small function (`list_words`, `choice_words`, `table_words`, `prefix_words`): it finds the parts of a line's numbers by
-// their places (`part`), calls the library, and puts the answer's text (the crate `phrases`) at a place of a lent run. No word writes
-// to the numbers but r2p, whose run is written in place. `limits` says how long the parts and an answer may be.
+// their places (`part`), calls the library, and puts the answer's text (the crate `phrases`) into a lent run that holds its place. No
+// word writes to the numbers but r2p, whose run is written in place. `limits` says how long the parts and an answer may be.
 #![tactic(auto)]
 
 pub mod choice_words;

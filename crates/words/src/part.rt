@@ -76,7 +76,8 @@ pub fn table_ends(given: &[u32], more: usize) -> Option<(usize, usize)>
     all_narrow(&given[from..t]).then_some((e, t))
 }
 
-// Writes numbers of 16 bits to a run of as many.
+// Writes numbers of 16 bits to a run of as many. Each caller has the room and binds its part in two lines: one function that gave the part
+// would return a `&mut`, whose contract, which must say how what is written later comes back, is no plainer.
 pub(crate) fn narrow(numbers: &[u32], table: &mut [u16])
     requires table_len { length table.old ≡ length numbers.now }
     requires narrow_numbers { all_narrow numbers.now ≡ true }
