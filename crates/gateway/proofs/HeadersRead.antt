@@ -13,7 +13,8 @@ use lib.Dec.{eqb}
 use lib.ListN.{length, take, drop, replicate}
 use lib.Seq.{sets, sets-eq, take-append-add}
 use Rattle.std.specs.Prelude.{Option, None, Some, is_none}
-use Rattle.ranges.specs.Refusals.{number_of, BadLine}
+use Rattle.ranges.specs.Refusals.{number_of}
+use Rattle.ranges.specs.declared.refusal.Cause.TheVariants.{BadLine}
 use Rattle.ranges.specs.Numbers.{pick, ◌and◌}
 use Rattle.lists.specs.Rules.{Rules, fields_of}
 use Rattle.lists.specs.Headers.{header_length, zeros}

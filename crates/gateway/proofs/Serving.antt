@@ -17,6 +17,7 @@ use Rattle.lists.specs.Rules.{Rules, listed, shape_of}
 use Rattle.lists.specs.declared.shape.Shape.{Shape}
 use Rattle.text.specs.Cells.{fed}
 use Rattle.text.specs.Files.{InFile, in_file}
+use Rattle.text.specs.declared.put.Out.{Out}
 use Rattle.text.specs.Judging.{judged, Over, over, over_byte, over_close, over_begun}
 use Rattle.text.proofs.Feeding.{rest_is, fed_append}
 use Rattle.text.proofs.Files.{map_in_file, finish_map}
@@ -121,7 +122,7 @@ module _ (R : Rules) (T : List ℕ) (f : HeadersFile) (bytes header : List ℕ) 
         let all : before.done ≡ bytes = sym (append-nil before.done) ∙ ap (λ r. before.done ++ r) (sym (nil_from_length rest none)) ∙ before.cut in
         record { done = before.done; rest = rest; cut = before.cut; file = present; state = before.state; all = (refl, all) }
 
-    module _ {r : Progress} {left' after : List ℕ} (took : HeadersPiece R T present rest left out r left' after) where
+    module _ {r : Progress} {left' : List ℕ} {old new : Out} (took : HeadersPiece R T present rest left old r left' new) where
       abbrev part : List ℕ
       part = take r.used rest
 
@@ -135,8 +136,8 @@ module _ (R : Rules) (T : List ℕ) (f : HeadersFile) (bytes header : List ℕ) 
           ∙ sym (quiet-fed R T (headers_fed R T f header before.done) part)
           ∙ ap quiet (sym (fed_append (headers_step R T) (headers_in_file f header []) before.done part))
 
-      pub turn_more : length after ≡ length out → TurnOn R T f bytes header n r.file left' after (take (length rest - r.used) (drop r.used rest))
-      turn_more kept =
+      pub turn_more : {after : List ℕ} → length after ≡ length out → TurnOn R T f bytes header n r.file left' after (take (length rest - r.used) (drop r.used rest))
+      turn_more {after} kept =
           record { done = before.done ++ part; cut = ap (λ q. (before.done ++ part) ++ q) (rest_is rest r.used) ∙ cut_then; long = kept ∙ before.long; state = state_then }
 
       -- what they print can't be written

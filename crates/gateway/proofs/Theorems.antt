@@ -25,6 +25,8 @@ use lib.Dec.{eqb}
 use lib.ListN.{length}
 use Rattle.std.specs.Prelude.{Option, None, Some, is_none}
 use Rattle.ranges.specs.Numbers.{pick}
+use Rattle.ranges.specs.Refusals.{none, number_in}
+use Rattle.ranges.proofs.InARow.{by_number}
 use Rattle.lists.specs.Limits.{most_fields, most_numbers}
 use Rattle.lists.specs.Rules.{Rules, fields_of}
 use Rattle.lists.specs.Faults.{list_fault}
@@ -62,10 +64,10 @@ use Rattle.gateway.proofs.HeadersRead.{headers_read}
 use Rattle.gateway.proofs.Pieces.{pieces_whole}
 
 -- rules without a fault have at most eight fields
-stands_checked : (ls : List (List ℕ)) → rules_fault ls ≡ 0 → (list_fault (rules_from ls)).number ≡ 0
-stands_checked ls none = go (eqb (reading_fault ls) 0) refl none
+stands_checked : (ls : List (List ℕ)) → rules_fault ls ≡ 0 → list_fault (rules_from ls) ≡ none
+stands_checked ls fine = by_number (list_fault (rules_from ls)) (go (eqb (reading_fault ls) 0) refl fine)
   where
-    go : (t : Bool) → eqb (reading_fault ls) 0 ≡ t → pick t (list_fault (rules_from ls)).number (reading_fault ls) ≡ 0 → (list_fault (rules_from ls)).number ≡ 0
+    go : (t : Bool) → eqb (reading_fault ls) 0 ≡ t → pick t (number_in (list_fault (rules_from ls))) (reading_fault ls) ≡ 0 → number_in (list_fault (rules_from ls)) ≡ 0
     go true p e = e
     go false p e = absurd (eqb-false (reading_fault ls) 0 p e)
 

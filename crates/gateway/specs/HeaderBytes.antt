@@ -9,7 +9,8 @@ use Rattle.lists.specs.Headers.{zeros}
 use Rattle.text.specs.Cells.{fed}
 use Rattle.text.specs.Files.{InFile, line_in}
 use Rattle.text.specs.Lines.{no_bytes, LineNow}
-use Rattle.text.specs.Puts.{Put}
+use Rattle.text.specs.Puts.{Puts}
+use Rattle.text.specs.declared.put.Out.{Out}
 use Rattle.text.specs.Judging.{Judged, judged, Over, over_in, over_step, over_end}
 use Rattle.text.specs.declared.line.Line.{Line}
 use Rattle.answers.specs.HeaderLines.{header_flaw, answer_said}
@@ -18,7 +19,6 @@ use Rattle.answers.specs.declared.answer.HeaderFlaw.{HeaderFlaw}
 use Rattle.answers.specs.declared.count.HeadersSoFar.{HeadersSoFar}
 use Rattle.gateway.specs.declared.headers.HeadersFile.{HeadersFile}
 use Rattle.gateway.specs.declared.headers.Progress.{Progress}
-use Rattle.gateway.specs.declared.headers.Ended.{Ended}
 
 -- nothing has been read
 abbrev pub no_headers : HeadersFile
@@ -62,28 +62,28 @@ abbrev pub headers_end : Rules → List ℕ → InFile (Over Answered) → Answe
 headers_end R T s = (over_end header_at (judge_header R T) s).own
 
 -- ---- what is printed
--- bytes put from a place of a run on, none left out
-pub record Wrote (out : List ℕ) (at : ℕ) (bs : List ℕ) (after : List ℕ) (next : ℕ) : Type 0 where
-  pub put : Put out at bs after next
-  pub fits : at + length bs ≤ length out
+-- bytes put into a run at its place, none left out
+pub record Wrote (old : Out) (bs : List ℕ) (new : Out) : Type 0 where
+  pub puts : Puts old bs new
+  pub fits : old.at + length bs ≤ length old.bytes.now
 
 -- s is what is defined of the bytes read; the code has this file and this header, and has printed the rest of s
-pub record Printed (s : InFile (Over Answered)) (f : HeadersFile) (header out : List ℕ) (at : ℕ) (after : List ℕ) (next : ℕ) : Type 0 where
+pub record Printed (s : InFile (Over Answered)) (f : HeadersFile) (header : List ℕ) (old new : Out) : Type 0 where
   pub reads : headers_in_file f header s.at.own.said ≡ s
-  pub prints : Wrote out at s.at.own.said after next
+  pub prints : Wrote old s.at.own.said new
 
 -- bytes to the end of the present line
-pub record HeadersTook (R : Rules) (T : List ℕ) (f : HeadersFile) (bytes header out : List ℕ) (at : ℕ) (r : Progress) (left after : List ℕ) : Type 0 where
+pub record HeadersTook (R : Rules) (T : List ℕ) (f : HeadersFile) (bytes header : List ℕ) (old : Out) (r : Progress) (left : List ℕ) (new : Out) : Type 0 where
   pub used : r.used ≡ line_in f.reader.cr bytes
-  pub printed : Printed (headers_fed R T f header (take r.used bytes)) r.file left out at after r.at
+  pub printed : Printed (headers_fed R T f header (take r.used bytes)) r.file left old new
 
--- a piece, from the front of the run on: of its bytes no more than there are, and one at least where there are some
-pub record HeadersPiece (R : Rules) (T : List ℕ) (f : HeadersFile) (bytes header out : List ℕ) (r : Progress) (left after : List ℕ) : Type 0 where
+-- a piece: of its bytes no more than there are, and one at least where there are some
+pub record HeadersPiece (R : Rules) (T : List ℕ) (f : HeadersFile) (bytes header : List ℕ) (old : Out) (r : Progress) (left : List ℕ) (new : Out) : Type 0 where
   pub most : r.used ≤ length bytes
   pub some : 0 < length bytes → 0 < r.used
-  pub printed : Printed (headers_fed R T f header (take r.used bytes)) r.file left out 0 after r.at
+  pub printed : Printed (headers_fed R T f header (take r.used bytes)) r.file left old new
 
 -- the file's end
-pub record HeadersEnd (R : Rules) (T : List ℕ) (f : HeadersFile) (header out : List ℕ) (r : Ended) (after : List ℕ) : Type 0 where
-  pub headers : r.headers ≡ (headers_end R T (headers_in_file f header [])).headers
-  pub prints : Wrote out 0 (headers_end R T (headers_in_file f header [])).said after r.at
+pub record HeadersEnd (R : Rules) (T : List ℕ) (f : HeadersFile) (header : List ℕ) (old : Out) (r : HeadersSoFar) (new : Out) : Type 0 where
+  pub headers : r ≡ (headers_end R T (headers_in_file f header [])).headers
+  pub prints : Wrote old (headers_end R T (headers_in_file f header [])).said new

@@ -1,7 +1,7 @@
 // The headers file, read piece by piece to its end, and the answers to its lines out: read, hand on, write.
 ghost use Rattle.std.specs.Prelude.{◌≤◌, length, take};
 ghost use Rattle.answers.specs.Said.{line_most};
-ghost use Rattle.lists.specs.Rules.{listed};
+ghost use Rattle.lists.specs.Rules.{lent};
 ghost use Rattle.rulesfile.specs.Tabled.{list_read, room_read};
 ghost use Rattle.gateway.specs.Serving.{TurnTook, HeadersOver, HeadersLost, HeadersEnded, HeadersReadFrom};
 
@@ -9,33 +9,35 @@ use crate::headers::{HeadersFile, headers_end, headers_piece, headers_start};
 use crate::input::{NoBytes, Source, open_input, read_some};
 use crate::output::write_out;
 use answers::count::HeadersSoFar;
-use lists::shape::Shape;
+use lists::shape::RuleList;
 use programs::streams::Streams;
 use rulesfile::file::RulesSoFar;
 use rulesfile::table::{rules_length, rules_room, rules_shape};
 use std::fs::{File, Files};
+use text::put::Out;
 
 // Answers the lines that a piece ends, and writes the answers; none where they can't be written.
 fn answer_piece(
     streams: Streams,
     file: HeadersFile,
     bytes: &[u8],
-    shape: Shape,
-    list: &[u32],
+    list: &RuleList,
     table: &[u16],
     header: &mut [u32; 8],
     out: &mut [u8],
 ) -> Option<HeadersFile>
     requires { line_most ≤ length out.old }
-    ensures { TurnTook (listed shape list.now) table.now file bytes.now header.old result header.new }
+    ensures { TurnTook (lent list.now) table.now file bytes.now header.old result header.new }
 {
     let mut present = file;
     let mut rest = bytes;
     while !rest.is_empty() {
-        let next = headers_piece(present, rest, shape, list, table, header, out);
+        let mut lines = Out { bytes: out, at: 0 };
+        let next = headers_piece(present, rest, list, table, header, &mut lines);
         present = next.file;
         rest = &rest[next.used..];
-        if !write_out(streams, out, next.at) {
+        let at = lines.at;
+        if !write_out(streams, out, at) {
             return None;
         }
     }
@@ -65,18 +67,18 @@ fn stopped_at(file: HeadersFile) -> HeadersRead
 fn end_answers(
     streams: Streams,
     file: HeadersFile,
-    shape: Shape,
-    list: &[u32],
+    list: &RuleList,
     table: &[u16],
     header: &mut [u32; 8],
     out: &mut [u8],
 ) -> HeadersRead
     requires { line_most ≤ length out.old }
-    ensures { HeadersOver (listed shape list.now) table.now file header.old result }
+    ensures { HeadersOver (lent list.now) table.now file header.old result }
 {
-    let last = headers_end(file, shape, list, table, header, out);
-    let headers = last.headers;
-    if write_out(streams, out, last.at) {
+    let mut line = Out { bytes: out, at: 0 };
+    let headers = headers_end(file, list, table, header, &mut line);
+    let at = line.at;
+    if write_out(streams, out, at) {
         return HeadersRead::Are(headers);
     }
     HeadersRead::Failed
@@ -88,17 +90,16 @@ fn end_headers(
     streams: Streams,
     why: NoBytes,
     file: HeadersFile,
-    shape: Shape,
-    list: &[u32],
+    list: &RuleList,
     table: &[u16],
     header: &mut [u32; 8],
     out: &mut [u8],
 ) -> HeadersRead
     requires { line_most ≤ length out.old }
-    ensures { HeadersEnded why (listed shape list.now) table.now file header.old result }
+    ensures { HeadersEnded why (lent list.now) table.now file header.old result }
 {
     match why {
-        NoBytes::End => end_answers(streams, file, shape, list, table, header, out),
+        NoBytes::End => end_answers(streams, file, list, table, header, out),
         NoBytes::Folder => stopped_at(file),
         NoBytes::Failed => stopped_at(file),
     }
@@ -109,24 +110,23 @@ fn headers_all(
     streams: Streams,
     source: &mut Source,
     path: &[u8],
-    shape: Shape,
-    list: &[u32],
+    list: &RuleList,
     table: &[u16],
     bytes: &mut [u8],
     header: &mut [u32; 8],
     out: &mut [u8],
 ) -> HeadersRead
     requires { line_most ≤ length out.old }
-    ensures { HeadersReadFrom (listed shape list.now) table.now header.old result }
+    ensures { HeadersReadFrom (lent list.now) table.now header.old result }
 {
     let start = headers_start();
     let mut file = start;
     for _ in 0..u64::MAX {
         let n = match read_some(streams, source, path, bytes) {
             Ok(n) => n,
-            Err(why) => return end_headers(streams, why, file, shape, list, table, header, out),
+            Err(why) => return end_headers(streams, why, file, list, table, header, out),
         };
-        match answer_piece(streams, file, &bytes[..n], shape, list, table, header, out) {
+        match answer_piece(streams, file, &bytes[..n], list, table, header, out) {
             Some(next) => file = next,
             None => return HeadersRead::Failed,
         }
@@ -154,15 +154,17 @@ pub(crate) fn answer_headers(
     let Some(mut source) = open_input(files, streams, path) else {
         return stopped_at(headers_start());
     };
-    let shape = rules_shape(rules);
     let k = rules_length(rules, list);
     let t = rules_room(rules, table);
+    let list = RuleList {
+        shape: rules_shape(rules),
+        numbers: &list[..k],
+    };
     headers_all(
         streams,
         &mut source,
         path,
-        shape,
-        &list[..k],
+        &list,
         &table[..t],
         bytes,
         header,

@@ -1,15 +1,16 @@
 // The headers file, as far as its bytes have come: each number that stands goes to its place in the lent header, and a
 // line that has ended is answered.
 ghost use Rattle.std.specs.Prelude.{◌≡◌, ◌+◌, ◌≤◌, length};
-ghost use Rattle.lists.specs.Rules.{listed};
+ghost use Rattle.lists.specs.Rules.{lent};
 ghost use Rattle.answers.specs.Said.{line_most};
 ghost use Rattle.gateway.specs.HeaderBytes.{no_headers, HeadersTook, HeadersPiece, HeadersEnd};
 
 use answers::answer::{header_flaw, put_answer};
 use answers::count::{HeadersSoFar, count_start, counted};
 use answers::say::LINE_MOST;
-use lists::shape::Shape;
+use lists::shape::RuleList;
 use text::line::{Reader, end_line, read_line, reader_start};
+use text::put::Out;
 
 // The headers file within a line, of which some bytes have come.
 #[derive(Clone, Copy)]
@@ -18,19 +19,11 @@ pub struct HeadersFile {
     pub headers: HeadersSoFar,
 }
 
-// The headers after some bytes more, how many those were, and the next place for output.
+// The headers after some bytes more, and how many those were.
 #[derive(Clone, Copy)]
 pub struct Progress {
     pub file: HeadersFile,
     pub used: usize,
-    pub at: usize,
-}
-
-// The headers once their file has ended, and the next place for output.
-#[derive(Clone, Copy)]
-pub struct Ended {
-    pub headers: HeadersSoFar,
-    pub at: usize,
 }
 
 // Makes headers of which nothing has been read.
@@ -48,16 +41,13 @@ pub fn headers_start() -> HeadersFile
 fn headers_line(
     file: HeadersFile,
     bytes: &[u8],
-    shape: Shape,
-    list: &[u32],
+    list: &RuleList,
     table: &[u16],
     header: &mut [u32; 8],
-    out: &mut [u8],
-    at: usize,
+    out: &mut Out,
 ) -> Progress
-    requires { at + line_most ≤ length out.old }
-    ensures { HeadersTook (listed shape list.now) table.now file bytes.now header.old out.old at
-        result header.new out.new }
+    requires { out.old.at + line_most ≤ length out.old.bytes.now }
+    ensures { HeadersTook (lent list.now) table.now file bytes.now header.old out.old result header.new out.new }
 {
     let headers = file.headers;
     let read = read_line(file.reader, bytes, 0, header);
@@ -66,12 +56,11 @@ fn headers_line(
         return Progress {
             file: HeadersFile { reader, headers },
             used: read.used,
-            at,
         };
     }
     let line = reader.line;
-    let flaw = header_flaw(line, shape.d);
-    let next = put_answer(flaw, shape, list, table, *header, out, at);
+    let flaw = header_flaw(line, list.shape.d);
+    put_answer(flaw, list, table, *header, out);
     *header = [0; 8];
     Progress {
         file: HeadersFile {
@@ -79,72 +68,60 @@ fn headers_line(
             headers: counted(headers, flaw),
         },
         used: read.used,
-        at: next,
     }
 }
 
-// Reads a piece of the file, cut anywhere, as long as there is room for another line of output, which goes to the front
-// of the run: of some bytes at least one. (No index loop: a turn takes the bytes of a line, and how many were taken is
-// answered.)
+// Reads a piece of the file, cut anywhere, as long as there is room for another line of output: of some bytes at least
+// one. (No index loop: a turn takes the bytes of a line, and how many were taken is answered.)
 pub(crate) fn headers_piece(
     file: HeadersFile,
     bytes: &[u8],
-    shape: Shape,
-    list: &[u32],
+    list: &RuleList,
     table: &[u16],
     header: &mut [u32; 8],
-    out: &mut [u8],
+    out: &mut Out,
 ) -> Progress
-    requires { line_most ≤ length out.old }
-    ensures { HeadersPiece (listed shape list.now) table.now file bytes.now header.old out.old
-        result header.new out.new }
+    requires { out.old.at + line_most ≤ length out.old.bytes.now }
+    ensures { HeadersPiece (lent list.now) table.now file bytes.now header.old out.old result header.new out.new }
 {
     let mut present = file;
-    let mut place = 0;
     let mut i = 0;
     while i < bytes.len() {
-        let next = headers_line(present, &bytes[i..], shape, list, table, header, out, place);
+        let next = headers_line(present, &bytes[i..], list, table, header, out);
         present = next.file;
-        place = next.at;
         i += next.used;
-        if out.len() - LINE_MOST < place {
+        if out.bytes.len() - LINE_MOST < out.at {
             return Progress {
                 file: present,
                 used: i,
-                at: place,
             };
         }
     }
     Progress {
         file: present,
         used: i,
-        at: place,
     }
 }
 
-// Ends the file: puts the answer to a last line that no CRLF ends, at the front of the run.
+// Ends the file: puts the answer to a last line that no CRLF ends.
 pub(crate) fn headers_end(
     file: HeadersFile,
-    shape: Shape,
-    list: &[u32],
+    list: &RuleList,
     table: &[u16],
     header: &mut [u32; 8],
-    out: &mut [u8],
-) -> Ended
-    requires { line_most ≤ length out.old }
-    ensures { HeadersEnd (listed shape list.now) table.now file header.old out.old result out.new }
+    out: &mut Out,
+) -> HeadersSoFar
+    requires { out.old.at + line_most ≤ length out.old.bytes.now }
+    ensures { HeadersEnd (lent list.now) table.now file header.old out.old result out.new }
 {
     let headers = file.headers;
     let read = end_line(file.reader, 0, header);
     if !read.ended {
-        return Ended { headers, at: 0 };
+        return headers;
     }
     let reader = read.reader;
     let line = reader.line;
-    let flaw = header_flaw(line, shape.d);
-    let next = put_answer(flaw, shape, list, table, *header, out, 0);
-    Ended {
-        headers: counted(headers, flaw),
-        at: next,
-    }
+    let flaw = header_flaw(line, list.shape.d);
+    put_answer(flaw, list, table, *header, out);
+    counted(headers, flaw)
 }

@@ -12,6 +12,7 @@ use std::fs::{File, Files};
 use std::io;
 use std::io::{Error, ErrorKind, Read};
 use std::str::from_utf8;
+use text::put::Out;
 
 // What a file is read from.
 #[derive(Drop)]
@@ -38,7 +39,12 @@ const NO_TEXT: i32 = 84;
 // Says on standard error what the system found wrong with a file.
 pub(crate) fn say_failed(streams: Streams, path: &[u8], error: Error) {
     let mut text = [0u8; 8192];
-    let n = put_named(b"gateway", path, &mut text, 0);
+    let mut named = Out {
+        bytes: &mut text,
+        at: 0,
+    };
+    put_named(b"gateway", path, &mut named);
+    let n = named.at;
     say_first(streams, &text, n, error);
 }
 

@@ -16,10 +16,13 @@ use programs::streams::Streams;
 use rulesfile::file::RulesSoFar;
 use rulesfile::table::rules_shape;
 use std::fs::{File, Files};
+use text::put::Out;
 
 // Says on standard error what is wrong with the rules.
 fn say_flaw(streams: Streams, flaw: Flaw, path: &[u8], out: &mut [u8]) {
-    let at = put_complaint(flaw, b"gateway", path, out);
+    let mut line = Out { bytes: out, at: 0 };
+    put_complaint(flaw, b"gateway", path, &mut line);
+    let at = line.at;
     write_error(streams, out, at);
 }
 
@@ -28,7 +31,9 @@ fn say_refused(streams: Streams, headers: HeadersSoFar, d: usize, path: &[u8], o
     if headers.refused.is_none() {
         return;
     }
-    let at = put_headers_flaws(headers, d, path, out);
+    let mut line = Out { bytes: out, at: 0 };
+    put_headers_flaws(headers, d, path, &mut line);
+    let at = line.at;
     write_error(streams, out, at);
 }
 
@@ -78,11 +83,13 @@ fn serve_rules(
     requires { line_most ≤ length out.old }
     ensures { result ≡ true → tabled_flaw read.rules list.now table.old ≡ None }
 {
-    let opened = open_rules(read.rules, list, table, out);
-    if !write_out(streams, out, opened.at) {
+    let mut line = Out { bytes: out, at: 0 };
+    let opened = open_rules(read.rules, list, table, &mut line);
+    let at = line.at;
+    if !write_out(streams, out, at) {
         return false;
     }
-    let Some(flaw) = opened.flaw else {
+    let Err(flaw) = opened else {
         return serve_headers(
             files,
             streams,

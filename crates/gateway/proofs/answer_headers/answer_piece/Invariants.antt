@@ -2,12 +2,12 @@
 -- what they print is written (`TurnOn`); the measure is what is left.
 -- Assumes nothing.
 use lib.ListN.{length}
-use Rattle.lists.specs.Rules.{listed}
+use Rattle.lists.specs.Rules.{lent}
 use Rattle.gateway.proofs.Serving.{TurnOn}
 use Rattle.gateway.proofs.answer_headers.answer_piece.Given as goal
 
 abbrev pub invariant-loop-rest : goal.invariant-loop-rest
-invariant-loop-rest l = TurnOn (listed l.shape l.list) l.table l.initial.present l.bytes l.initial.header (length l.initial.out) l.present l.header l.out l.rest
+invariant-loop-rest l = TurnOn (lent l.list) l.table l.initial.present l.bytes l.initial.header (length l.initial.out) l.present l.header l.out l.rest
 
 abbrev pub decreases-loop-rest : goal.decreases-loop-rest
 decreases-loop-rest l = length l.rest

@@ -2,9 +2,9 @@
 -- Assumes nothing.
 use mathlib.Core.Path.{◌≡◌}
 use lib.ListN.{length}
-use Rattle.lists.specs.Rules.{listed}
+use Rattle.lists.specs.Rules.{lent}
 use Rattle.gateway.proofs.Serving.{HeadersOn}
 use Rattle.gateway.proofs.answer_headers.headers_all.Given as goal
 
 abbrev pub invariant-loop : goal.invariant-loop
-invariant-loop l = (length l.bytes ≡ length l.initial.bytes) × HeadersOn (listed l.shape l.list) l.table l.initial.header (length l.initial.out) l.file l.header l.out
+invariant-loop l = (length l.bytes ≡ length l.initial.bytes) × HeadersOn (lent l.list) l.table l.initial.header (length l.initial.out) l.file l.header l.out

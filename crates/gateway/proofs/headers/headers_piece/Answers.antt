@@ -1,9 +1,6 @@
 -- The answers that the check does not find alone.
-use Prim.Native.Nat.{◌+◌, ◌≤◌}
 use native.Mathlib.Omega.{arith}
-use lib.ListN.{length}
 use Rattle.text.proofs.Files.{line_on_lem}
-use Rattle.answers.specs.Said.{line_most}
 use Rattle.gateway.proofs.Printing.{wrote_long, going_more, piece_full}
 use Rattle.gateway.proofs.headers.headers_piece.Goals as goal
 
@@ -12,9 +9,11 @@ overflow_add-i c =
     let taken = line_on_lem _ c.args.bytes.now c.loop-i.i c.loop-i-test.true c.headers_line-next.ensures.used in
     omega (arith, taken.1, c.well_formed.1.0.0)
 
-pub returns-then-out-place : goal.returns-then-out-place
-returns-then-out-place c =
-    piece_full _ _ _ _ _ _ c.loop-i.invariant c.loop-i-test.true c.headers_line-next.ensures
+pub overflow_sub-out : goal.overflow_sub-out
+overflow_sub-out c = omega (arith, wrote_long c.headers_line-next.ensures.printed.prints, c.loop-i.invariant.room)
+
+pub returns-then-out : goal.returns-then-out
+returns-then-out c = piece_full _ _ _ _ _ _ c.loop-i.invariant c.loop-i-test.true c.headers_line-next.ensures
 
 pub loop-i-smaller : goal.loop-i-smaller
 loop-i-smaller c =
@@ -23,7 +22,5 @@ loop-i-smaller c =
 
 pub loop-i-preserved : goal.loop-i-preserved
 loop-i-preserved c =
-    let long = wrote_long c.loop-i.invariant.printed.prints in
-    let kept = wrote_long c.headers_line-next.ensures.printed.prints in
-    let room : c.headers_line-next.result.at + line_most ≤ length c.args.out.now = omega (arith, c.requires, c.if-out-place.false) in
-    going_more _ _ _ _ _ _ c.loop-i.invariant c.loop-i-test.true c.headers_line-next.ensures room
+    let long = wrote_long c.headers_line-next.ensures.printed.prints in
+    going_more _ _ _ _ _ _ c.loop-i.invariant c.loop-i-test.true c.headers_line-next.ensures (omega (arith, c.loop-i.invariant.room))

@@ -3,12 +3,12 @@
 -- Assumes nothing.
 use Prim.Native.Nat.{◌-◌}
 use lib.ListN.{length}
-use Rattle.lists.specs.Rules.{listed}
+use Rattle.lists.specs.Rules.{lent}
 use Rattle.gateway.proofs.Printing.{Going}
 use Rattle.gateway.proofs.headers.headers_piece.Given as goal
 
 abbrev pub invariant-loop-i : goal.invariant-loop-i
-invariant-loop-i l = Going (listed l.shape l.list) l.table l.initial.present l.bytes l.initial.header l.initial.out l.present l.header l.out l.place l.i
+invariant-loop-i l = Going (lent l.list) l.table l.initial.present l.bytes l.initial.header l.initial.out l.present l.header l.out l.i
 
 abbrev pub decreases-loop-i : goal.decreases-loop-i
 decreases-loop-i l = length l.bytes - l.i
