@@ -36,27 +36,26 @@ pub fn line_start() -> Line
 fn number_byte(line: Line, byte: u8) -> Line
     ensures { result ≡ number_with line byte }
 {
-    let heard = Line {
-        named: true,
-        ..line
-    };
     if line.row.cells == 0 {
         if has_colon(line.flags) {
             return Line {
+                named: true,
                 flags: flags_byte(line.flags, byte),
-                ..heard
+                ..line
             };
         }
         if byte == b':' {
             return Line {
+                named: true,
                 flags: Flags::Read { count: 0, dates: 0 },
-                ..heard
+                ..line
             };
         }
     }
     Line {
+        named: true,
         row: row_byte(line.row, byte),
-        ..heard
+        ..line
     }
 }
 
