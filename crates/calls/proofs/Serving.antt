@@ -15,7 +15,8 @@ use lib.ListN.{length, take, drop}
 use Rattle.ranges.specs.Numbers.{pick, ◌and◌}
 use Rattle.text.specs.Cells.{fed}
 use Rattle.text.specs.Puts.{place_after}
-use Rattle.text.proofs.Puts.{put_no_byte}
+use Rattle.text.specs.declared.put.Out.{Out}
+use Rattle.text.proofs.Puts.{puts_none}
 use Rattle.words.specs.Limits.{answer_most}
 use Rattle.phrases.specs.Few.{PutFew}
 use Rattle.phrases.proofs.Few.{few_text}
@@ -129,18 +130,18 @@ anew_is h anew left = rw (anew, left)
 
 module _ (s : Heard) (bytes : List ℕ) (k : ℕ) (is : k ≡ line_in bytes) {h : Heard} (hears : h ≡ fed heard_byte s (take k bytes)) where
   -- no line ends in these bytes
-  pub served-within : {out : List ℕ} {at : ℕ} → k ≡ length bytes → Served s bytes out at h k out at
-  served-within {out} {at} all =
+  pub served-within : {out : Out} → k ≡ length bytes → Served s bytes out h k out
+  served-within all =
       let none = within bytes s in
       record {
         count = is ∙ sym (end_none bytes (sym is ∙ all));
-        said = rw (is, none.said) (few_text answer_most (omega arith) put_no_byte);
+        said = rw (is, none.said) (few_text answer_most (omega arith) puts_none);
         left = hears ∙ ap (λ j. fed heard_byte s (take j bytes)) is ∙ sym none.left ∙ ap (λ j. fed served_byte s (take j bytes)) (sym is);
       }
 
   -- a line ends
-  pub served-ended : {out : List ℕ} {at : ℕ} {t : Heard} {after : List ℕ} {end : ℕ} → (k ≡ length bytes → ⊥)
-      → PutFew answer_most out at (line_said h) after end → t ≡ line_anew h → Served s bytes out at t (k + 1) after end
+  pub served-ended : {old new : Out} {t : Heard} → (k ≡ length bytes → ⊥) → PutFew answer_most old (line_said h) new → t ≡ line_anew h
+      → Served s bytes old t (k + 1) new
   served-ended {t = t} not-all put anew =
       let lt : line_in bytes < length bytes = omega (arith, line_within bytes) in
       let line = through bytes s lt in

@@ -1,4 +1,5 @@
 // Standard input to standard output: what is read is served piece by piece, and answers are written in large pieces.
+ghost use Rattle.std.specs.Prelude.{◌≡◌};
 ghost use Rattle.programs.specs.Output.{ShortTold};
 
 use crate::reply::{put_last, serve_lines};
@@ -7,13 +8,18 @@ use programs::output::{say_error, write_out};
 use programs::streams::Streams;
 use std::io::Read;
 use std::ops::ControlFlow;
+use text::put::Out;
 
-// Writes the first bytes of a run, as many as stand before a place, and answers whether that went well; where it did
-// not, says so on standard error.
-fn flush(streams: Streams, out: &[u8], at: usize) -> bool
-    ensures { ShortTold out.now at result }
+// Writes what has been put, and makes room for more; answers whether that went well, and where it did not, says so on standard
+// error.
+fn flush(streams: Streams, out: &mut Out) -> bool
+    ensures told { ShortTold out.old.bytes.now out.old.at result }
+    ensures anew { out.new.at ≡ 0 }
 {
-    write_out(streams, b"calls: write", out, at)
+    let at = out.at;
+    let well = write_out(streams, b"calls: write", out.bytes, at);
+    out.at = 0;
+    well
 }
 
 // Serves the bytes of one read and writes what they answered. To go on with is the present line then; a break says
@@ -24,7 +30,7 @@ fn serve_piece(
     bytes: &[u8],
     name: &mut [u8],
     numbers: &mut [u32],
-    out: &mut [u8],
+    out: &mut Out,
 ) -> ControlFlow<bool, Line> {
     let mut present = line;
     let mut next = 0;
@@ -33,7 +39,7 @@ fn serve_piece(
         let place = serve_lines(present, &bytes[next..], name, numbers, out);
         present = place.line;
         next += place.next;
-        if !flush(streams, out, place.at) {
+        if !flush(streams, out) {
             return ControlFlow::Break(false);
         }
     }
@@ -47,7 +53,7 @@ fn serve_some(
     bytes: &mut [u8],
     name: &mut [u8],
     numbers: &mut [u32],
-    out: &mut [u8],
+    out: &mut Out,
 ) -> ControlFlow<bool, Line> {
     let mut input = streams.input;
     match input.read(bytes) {
@@ -66,10 +72,10 @@ fn serve_last(
     line: Line,
     name: &[u8],
     numbers: &mut [u32],
-    out: &mut [u8],
+    out: &mut Out,
 ) -> bool {
-    let at = put_last(line, name, numbers, out);
-    flush(streams, out, at)
+    put_last(line, name, numbers, out);
+    flush(streams, out)
 }
 
 // Serves standard input to its end, and says whether all of it was read and all answers were written. A proved loop has to
@@ -79,7 +85,7 @@ pub(crate) fn serve_all(
     bytes: &mut [u8],
     name: &mut [u8],
     numbers: &mut [u32],
-    out: &mut [u8],
+    out: &mut Out,
 ) -> bool {
     let mut line = line_start();
     for _ in 0..u64::MAX {

@@ -6,4 +6,4 @@ use Rattle.calls.proofs.answer.answer.Goals as goal
 
 pub returns-clause-put_few : goal.returns-clause-put_few
 returns-clause-put_few c =
-    few_more (omega arith) (few_then c.put_answer-next.ensures.put_few (few_text 1 (omega arith) c.put_byte.ensures))
+    few_more (omega arith) (few_then c.put_answer.ensures.put_few (few_text 1 (omega arith) c.byte.ensures))

@@ -27,4 +27,4 @@ overflow_add-next c =
 -- a line ends
 pub returns : goal.returns
 returns c =
-    served-ended _ _ _ c.line_in-k.ensures c.hear-more.ensures c.if-k-bytes.false c.answer-place.ensures.put_few (anew_is _ c.line_start-anew.ensures c.answer-place.ensures.numbers_after)
+    served-ended _ _ _ c.line_in-k.ensures c.hear-more.ensures c.if-k-bytes.false c.answer.ensures.put_few (anew_is _ c.line_start-anew.ensures c.answer.ensures.numbers_after)
