@@ -20,10 +20,10 @@ why_said path d LoneFeed = bytes ": " ++ feed_said path
 why_said path d (OtherWidth cells) = bytes ": " ++ cells_said cells ++ bytes ", where a rule has " ++ counted_said d (bytes " field")
 
 -- lines that were refused, the first of them named
-abbrev pub refused_said : List ℕ → ℕ → Option RefusedLines → List ℕ
-refused_said path d None = bytes "0 lines refused, the first is line 0"
-refused_said path d (Some r) = counted_said r.count (bytes " line") ++ bytes " refused, the first is line " ++ decimal_of r.first ++ why_said path d r.flaw
+abbrev pub lines_refused_said : List ℕ → ℕ → Option RefusedLines → List ℕ
+lines_refused_said path d None = bytes "0 lines refused, the first is line 0"
+lines_refused_said path d (Some r) = counted_said r.count (bytes " line") ++ bytes " refused, the first is line " ++ decimal_of r.first ++ why_said path d r.flaw
 
 -- of the headers
 abbrev pub headers_complaint : List ℕ → ℕ → HeadersSoFar → List ℕ
-headers_complaint path d h = named_said (bytes "gateway") path ++ bytes ": " ++ refused_said path d h.refused ++ bytes "\n"
+headers_complaint path d h = named_said (bytes "gateway") path ++ bytes ": " ++ lines_refused_said path d h.refused ++ bytes "\n"

@@ -1,7 +1,7 @@
 // What is said on standard error of the headers, for a person: which file, how many lines of it are refused, which is the
 // first, and what is wrong there.
 ghost use Rattle.text.specs.Puts.{Puts};
-ghost use Rattle.answers.specs.Complaints.{counted_said, why_said, refused_said, headers_complaint};
+ghost use Rattle.answers.specs.Complaints.{counted_said, why_said, lines_refused_said, headers_complaint};
 
 use crate::answer::HeaderFlaw;
 use crate::count::{HeadersSoFar, RefusedLines};
@@ -39,8 +39,8 @@ fn put_why(flaw: HeaderFlaw, d: usize, path: &[u8], out: &mut Out)
 }
 
 // Puts how many header lines were refused, and of the first which it is and why.
-fn put_refused(refused: Option<RefusedLines>, d: usize, path: &[u8], out: &mut Out)
-    ensures { Puts out.old (refused_said path.now d refused) out.new }
+fn put_refused_lines(refused: Option<RefusedLines>, d: usize, path: &[u8], out: &mut Out)
+    ensures { Puts out.old (lines_refused_said path.now d refused) out.new }
 {
     match refused {
         None => out.text(b"0 lines refused, the first is line 0"),
@@ -59,6 +59,6 @@ pub fn put_headers_flaws(headers: HeadersSoFar, d: usize, path: &[u8], out: &mut
 {
     put_named(b"gateway", path, out);
     out.text(b": ");
-    put_refused(headers.refused, d, path, out);
+    put_refused_lines(headers.refused, d, path, out);
     out.text(b"\n");
 }

@@ -4,4 +4,4 @@ use Rattle.text.proofs.Puts.{puts_then}
 use Rattle.answers.proofs.complain.put_headers_flaws.Goals as goal
 
 pub returns : goal.returns
-returns c = puts_then (puts_then (puts_then c.put_named.ensures c.text.ensures) c.put_refused.ensures) c.text-2.ensures
+returns c = puts_then (puts_then (puts_then c.put_named.ensures c.text.ensures) c.put_refused_lines.ensures) c.text-2.ensures

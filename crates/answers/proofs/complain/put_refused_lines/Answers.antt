@@ -1,7 +1,7 @@
--- `answers::complain::put_refused` meets its contract: its parts one after the other.
+-- `answers::complain::put_refused_lines` meets its contract: its parts one after the other.
 -- Assumes nothing.
 use Rattle.text.proofs.Puts.{puts_then}
-use Rattle.answers.proofs.complain.put_refused.Goals as goal
+use Rattle.answers.proofs.complain.put_refused_lines.Goals as goal
 
 pub returns-in-None : goal.returns-in-None
 returns-in-None c = rw c.in-None.is c.text.ensures
