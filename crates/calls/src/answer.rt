@@ -18,6 +18,7 @@ use words::prefix_words::{call_p2r, call_r2p, call_side};
 use words::table_words::call_table;
 
 // Puts what a call answers, given the flags of D and the line's numbers after its name. One call, r2p, writes among them.
+// (A `match`: each arm calls another function with other arguments, so closures in a table would be no plainer.)
 #[tactic(auto, using(phrases::proofs::Few::few_more))]
 fn put_word(word: Word, dates: u32, given: &mut [u32], out: &mut Out)
     ensures put_few { PutFew (answer_most - 1) out.old (word_said word dates given.old) out.new }

@@ -105,7 +105,7 @@ fn layout_from(dates: u32, given: &[u32], e: usize, out: &mut Out)
     layout_after(dates, given, e, t, out);
 }
 
-// Puts what a call of a list and a choice of partitions answers.
+// Puts what a call of a list and a choice of partitions answers. (A `match` of two arms, as `table_words::put_with`.)
 #[tactic(auto, using(crate::proofs::Parts::run_told), unfolding(crate::specs::Words::choose_said, crate::specs::Words::layout_said))]
 pub fn call_choice(word: ChoiceWord, dates: u32, given: &[u32], out: &mut Out)
     ensures { PutFew (answer_most - 1) out.old (choice_said word dates given.now) out.new }

@@ -86,7 +86,8 @@ fn numbers_after(word: TableWord) -> usize
     }
 }
 
-// Puts what a call answers, given its list, its table and the numbers that follow.
+// Puts what a call answers, given its list, its table and the numbers that follow. (A `match`: each arm calls another function
+// with other arguments, so closures in a table would be no plainer.)
 fn put_with(word: TableWord, list: &RuleList, table: &mut [u16], rest: &[u32], out: &mut Out)
     requires { length rest.now ≡ following word }
     ensures { PutFew (76 + 21 * length table.old) out.old (table_said word (lent list.now) table.old rest.now) out.new }
