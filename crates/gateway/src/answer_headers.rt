@@ -31,6 +31,7 @@ fn answer_piece(
 {
     let mut present = file;
     let mut rest = bytes;
+    // (No `for`: how many bytes a turn takes is not known before it.)
     while !rest.is_empty() {
         let mut lines = Out { bytes: out, at: 0 };
         let next = headers_piece(present, rest, list, table, header, &mut lines);

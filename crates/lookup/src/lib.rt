@@ -30,9 +30,9 @@
 // to be left, and its rule is held against the header in all d fields once more. Whatever fails refuses the whole call with
 // 6. So a rule that is returned fits, whatever the table.
 //
-// What it costs. As much as a loop: `walk` is passed its two slices by reference and answers with one number, so that no call of
-// itself is handed a local of the caller, and the compiler makes the recursion a loop. `visit` unpacks the number into the
-// partition's answer, hit, miss or broken.
+// What it costs. As much as a loop: `walk` is passed its list and its table by reference and answers with one number, so that no
+// call of itself is handed a local of the caller, and the compiler makes the recursion a loop. `visit` unpacks the number into the
+// partition's answer: a rule, or none, with the tests, or broken.
 #![tactic(auto)]
 
 pub mod lookup;

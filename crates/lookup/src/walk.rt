@@ -58,7 +58,8 @@ fn to_in(table: &Table, p: u16, f: u16) -> u16
     table.numbers[to_at(table.room, table.d, p, f)]
 }
 
-// Gives the range of rule i in field f.
+// Gives the range of rule i in field f. A reader of its own, as in `ordering`: it asks that the rule stands there, and no public
+// function asks anything.
 fn range_at(list: &RuleList, i: u16, f: u16) -> Range
     requires { HasField (lent list.now) i f }
     ensures { result ≡ range_at (lent list.now) i f }
@@ -156,7 +157,7 @@ const NO_ANSWER: u16 = 65535;
 const NO_RULE: u16 = 65534;
 
 // Gives a walk's answer as one number: 65536 times the rule number, or what stands for it, and the tests. A number comes
-// back in a register, so that the walk's call of itself costs no more than a turn of a loop.
+// back in a register, so that the walk's call of itself costs no more than a turn of a loop: as a `Result` it comes back in memory.
 fn pack(walked: Result<Ran, Broken>) -> u32
     ensures { result ≡ packed walked }
 {

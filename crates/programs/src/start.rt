@@ -12,7 +12,8 @@ pub struct Start {
     pub words: usize,
 }
 
-// The system's numbers of two errors: there is no such word, and a word that is longer than the run.
+// The system's numbers of two errors: there is no such word, and a word that is longer than the run. (Numbers, since what is
+// said of them is what the system says, and that may not change.)
 const NO_WORD: i32 = 22;
 
 const LONG_WORD: i32 = 36;

@@ -154,6 +154,7 @@ pub fn rules_piece(file: RulesFile, bytes: &[u8], list: &mut [u32]) -> RulesFile
 {
     let mut present = file;
     let mut rest = bytes;
+    // (No `for`: how many bytes a turn takes is not known before it.)
     while !rest.is_empty() {
         let next = rules_line(present, rest, list);
         present = next.file;

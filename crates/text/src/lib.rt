@@ -8,7 +8,7 @@
 // (`specs/Judging.antt`). What has been read is held by value; a number that stands goes to its place in a lent run. So
 // a line may be cut anywhere into pieces and be of any length.
 //
-// Writing. Bytes are put at a place of a lent run, and the place after them is answered (`put`).
+// Writing. Bytes are put at the place of a lent run, which goes on with them (`put`).
 #![tactic(auto)]
 
 pub mod cell;

@@ -105,7 +105,8 @@ fn layout_from(dates: u32, given: &[u32], e: usize, out: &mut Out)
     layout_after(dates, given, e, t, out);
 }
 
-// Puts what a call of a list and a choice of partitions answers. (A `match` of two arms, as `table_words::put_with`.)
+// Puts what a call of a list and a choice of partitions answers. (A `match`: two
+// arms, with the same arguments, which a closure would have to be handed from outside all the same.)
 #[tactic(auto, using(crate::proofs::Parts::run_told), unfolding(crate::specs::Words::choose_said, crate::specs::Words::layout_said))]
 pub fn call_choice(word: ChoiceWord, dates: u32, given: &[u32], out: &mut Out)
     ensures { PutFew (answer_most - 1) out.old (choice_said word dates given.now) out.new }
