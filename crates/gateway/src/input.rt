@@ -50,10 +50,9 @@ pub(crate) fn say_failed(streams: Streams, path: &[u8], error: Error) {
 
 // Says it of the first bytes of a run, as many as stand before a place.
 fn say_first(streams: Streams, text: &[u8], n: usize, error: Error) {
-    if text.len() < n {
-        return;
+    if let Some(said) = text.get(..n) {
+        say_error(streams, said, error);
     }
-    say_error(streams, &text[..n], error);
 }
 
 // Says whether a name is that of standard input.
