@@ -40,7 +40,7 @@ RulesOver f list said (Some r) after = (judged r.rules after ≡ rules_end (rule
 abbrev pub RulesLost : List ℕ → Option RulesRead → List ℕ → Type 0
 RulesLost list r after = (r ≡ None) × (after ≡ list)
 
--- either, by what the last read brought
+-- either, by why the last read brought no bytes
 abbrev pub RulesEnded : NoBytes → RulesFile → List ℕ → Option RulesRead → List ℕ → Type 0
 RulesEnded End f list = RulesOver f list false
 RulesEnded Folder f list = RulesOver f list true
@@ -80,7 +80,7 @@ HeadersLost f (HeadersAre headers) = ⊥
 HeadersLost f (Stopped headers) = headers ≡ f.headers
 HeadersLost f NoHeaders = ⊥
 
--- either, by what the last read brought
+-- either, by why the last read brought no bytes
 abbrev pub HeadersEnded : NoBytes → Rules → List ℕ → HeadersFile → List ℕ → HeadersRead → Type 0
 HeadersEnded End R T f header = HeadersOver R T f header
 HeadersEnded Folder R T f header = HeadersLost f
