@@ -28,7 +28,6 @@ use serve::serve_all;
 use std::cell::Cell;
 use std::env::Env;
 use std::process::ExitCode;
-use text::put::Out;
 use words::limits::{LINE_ROOM, NAME_ROOM, OUT_ROOM};
 
 // Lends the runs that the work needs, and says whether all was read and answered.
@@ -36,11 +35,7 @@ fn run(streams: Streams) -> bool {
     let mut bytes = [0u8; 65536];
     let mut name = [0u8; NAME_ROOM];
     let mut numbers = [0u32; LINE_ROOM];
-    let mut room = [0u8; OUT_ROOM];
-    let mut out = Out {
-        bytes: &mut room,
-        at: 0,
-    };
+    let mut out = [0u8; OUT_ROOM];
     serve_all(streams, &mut bytes, &mut name, &mut numbers, &mut out)
 }
 

@@ -1,5 +1,4 @@
 // Standard input to standard output: what is read is served piece by piece, and answers are written in large pieces.
-ghost use Rattle.std.specs.Prelude.{◌≡◌};
 ghost use Rattle.programs.specs.Output.{ShortTold};
 
 use crate::reply::{put_last, serve_lines};
@@ -10,16 +9,12 @@ use std::io::Read;
 use std::ops::ControlFlow;
 use text::put::Out;
 
-// Writes what has been put, and makes room for more; answers whether that went well, and where it did not, says so on standard
-// error.
-fn flush(streams: Streams, out: &mut Out) -> bool
-    ensures told { ShortTold out.old.bytes.now out.old.at result }
-    ensures anew { out.new.at ≡ 0 }
+// Writes the first bytes of a run, as many as stand before a place, and answers whether that went well; where it did
+// not, says so on standard error.
+fn flush(streams: Streams, out: &[u8], at: usize) -> bool
+    ensures { ShortTold out.now at result }
 {
-    let at = out.at;
-    let well = write_out(streams, b"calls: write", out.bytes, at);
-    out.at = 0;
-    well
+    write_out(streams, b"calls: write", out, at)
 }
 
 // Serves the bytes of one read and writes what they answered. To go on with is the present line then; a break says
@@ -30,16 +25,18 @@ fn serve_piece(
     bytes: &[u8],
     name: &mut [u8],
     numbers: &mut [u32],
-    out: &mut Out,
+    out: &mut [u8],
 ) -> ControlFlow<bool, Line> {
     let mut present = line;
     let mut next = 0;
     // (No `for`: how many bytes a turn serves is not known before it.)
     while next < bytes.len() {
-        let place = serve_lines(present, &bytes[next..], name, numbers, out);
+        let mut answers = Out { bytes: out, at: 0 };
+        let place = serve_lines(present, &bytes[next..], name, numbers, &mut answers);
         present = place.line;
         next += place.next;
-        if !flush(streams, out) {
+        let at = answers.at;
+        if !flush(streams, out, at) {
             return ControlFlow::Break(false);
         }
     }
@@ -53,7 +50,7 @@ fn serve_some(
     bytes: &mut [u8],
     name: &mut [u8],
     numbers: &mut [u32],
-    out: &mut Out,
+    out: &mut [u8],
 ) -> ControlFlow<bool, Line> {
     let mut input = streams.input;
     match input.read(bytes) {
@@ -72,10 +69,12 @@ fn serve_last(
     line: Line,
     name: &[u8],
     numbers: &mut [u32],
-    out: &mut Out,
+    out: &mut [u8],
 ) -> bool {
-    put_last(line, name, numbers, out);
-    flush(streams, out)
+    let mut answers = Out { bytes: out, at: 0 };
+    put_last(line, name, numbers, &mut answers);
+    let at = answers.at;
+    flush(streams, out, at)
 }
 
 // Serves standard input to its end, and says whether all of it was read and all answers were written. A proved loop has to
@@ -85,7 +84,7 @@ pub(crate) fn serve_all(
     bytes: &mut [u8],
     name: &mut [u8],
     numbers: &mut [u32],
-    out: &mut Out,
+    out: &mut [u8],
 ) -> bool {
     let mut line = line_start();
     for _ in 0..u64::MAX {
