@@ -2,7 +2,7 @@
 -- Assumes nothing: these are definitions.
 use Rattle.std.specs.Prelude.{ℕ, ◌≤◌, List, ◌++◌, length, Option, None, Some, Result, Ok, Err}
 use Rattle.ranges.specs.Refusals.{number_of}
-use Rattle.ranges.specs.declared.refusal.Refusal.{Refusal}
+use Rattle.ranges.specs.Refusals.{Refusal}
 use Rattle.text.specs.Texts.{bytes}
 use Rattle.text.specs.Decimals.{decimal_of}
 use Rattle.text.specs.Puts.{Puts}

@@ -6,7 +6,7 @@ use mathlib.Core.List.{[], ◌∷◌}
 use mathlib.Core.Path.{◌≡◌}
 use Rattle.std.specs.Prelude.{Result}
 use Rattle.ranges.specs.Numbers.{bit}
-use Rattle.ranges.specs.declared.refusal.Refusal.{Refusal}
+use Rattle.ranges.specs.Refusals.{Refusal}
 use Rattle.ranges.proofs.Numbers.{bit_one}
 use Rattle.ranges.proofs.Answers.{said_one}
 use Rattle.auditing.specs.Audit.{says_verdict}

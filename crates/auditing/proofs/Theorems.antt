@@ -19,8 +19,7 @@ use mathlib.Core.Logic.{◌↔◌}
 use mathlib.Core.Path.{◌≡◌, refl, sym, ◌∙◌, subst}
 use lib.ListN.{length}
 use Rattle.std.specs.Prelude.{Result, Ok}
-use Rattle.ranges.specs.Refusals.{none}
-use Rattle.ranges.specs.declared.refusal.Refusal.{Refusal}
+use Rattle.ranges.specs.Refusals.{Refusal, none}
 use Rattle.ranges.proofs.Numbers.{true-not-false}
 use Rattle.ranges.proofs.InARow.{else_none}
 use Rattle.lists.specs.Rules.{Rules, rules_in}

@@ -3,8 +3,7 @@
 -- Assumes nothing: these are definitions.
 use Rattle.std.specs.Prelude.{ℕ, Bool, List, [], ◌∷◌, Result}
 use Rattle.ranges.specs.Numbers.{bit, ◌and◌, same_list}
-use Rattle.ranges.specs.Refusals.{stands, unless, Said, says}
-use Rattle.ranges.specs.declared.refusal.Refusal.{Refusal}
+use Rattle.ranges.specs.Refusals.{Refusal, stands, unless, Said, says}
 use Rattle.lists.specs.Rules.{Rules}
 use Rattle.sorting.specs.Table.{table_of}
 use Rattle.sorting.specs.Build.{build_fault}

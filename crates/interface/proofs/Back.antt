@@ -10,9 +10,8 @@ use lib.ListN.{get_or}
 use borrow.Author.Tests.{ne_eqb}
 use Rattle.std.specs.Prelude.{Result, Ok, Err, Option, Some, None}
 use Rattle.ranges.specs.Numbers.{pick, bit}
-use Rattle.ranges.specs.Refusals.{number_of, refusing, says, says_count}
+use Rattle.ranges.specs.Refusals.{Refusal, number_of, refusing, says, says_count}
 use Rattle.ranges.specs.Prefixes.{says_bounds}
-use Rattle.ranges.specs.declared.refusal.Refusal.{Refusal}
 use Rattle.ranges.specs.declared.prefix.Bounds.{Bounds}
 use Rattle.ranges.proofs.Numbers.{bit_test}
 use Rattle.ranges.proofs.Answers.{cause_of, cause_back, number_some}

@@ -4,8 +4,7 @@
 -- Assumes nothing: these are definitions.
 use Rattle.std.specs.Prelude.{ℕ, ◌-◌, ◌≡◌, List, [], ◌∷◌, ◌++◌, length, replicate, Option, Some, None, Result}
 use Rattle.ranges.specs.Numbers.{bit}
-use Rattle.ranges.specs.Refusals.{number_of, Said, says}
-use Rattle.ranges.specs.declared.refusal.Refusal.{Refusal}
+use Rattle.ranges.specs.Refusals.{Refusal, number_of, Said, says}
 use Rattle.lists.specs.Rules.{Rules, listed}
 use Rattle.lookup.specs.declared.lookup.Looked.{Looked}
 use Rattle.lookup.specs.declared.lookup.Match.{Match}

@@ -4,7 +4,7 @@
 use Prim.Native.Nat.{ℕ}
 use mathlib.Core.Path.{◌≡◌, refl}
 use Rattle.std.specs.Prelude.{Result, Option, Some, None}
-use Rattle.ranges.specs.declared.refusal.Refusal.{Refusal}
+use Rattle.ranges.specs.Refusals.{Refusal}
 use Rattle.ranges.proofs.Numbers.{never}
 use Rattle.ranges.proofs.Answers.{said_one}
 use Rattle.lists.specs.Scan.{match_words, says_match}

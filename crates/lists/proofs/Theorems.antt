@@ -37,9 +37,8 @@ use borrow.Author.Tests.{lt-ltb, le-ltb, ltb-true, le-leb, lt-leb, leb-true, leb
 use Rattle.std.specs.Prelude.{Ok, Err, Some, None}
 use Rattle.ranges.specs.Numbers.{least}
 use Rattle.ranges.specs.Sides.{end_of}
-use Rattle.ranges.specs.Refusals.{Fault, none, refused_at, refusing, unless, number_in}
+use Rattle.ranges.specs.Refusals.{Refusal, Fault, none, refused_at, refusing, unless, number_in}
 use Rattle.ranges.specs.declared.refusal.Cause.TheVariants.{LowAboveHigh}
-use Rattle.ranges.specs.declared.refusal.Refusal.{Refusal}
 use Rattle.ranges.proofs.InARow.{not-none, else_none, else_iff}
 use Rattle.ranges.proofs.Sides.{past_one}
 use Rattle.ranges.proofs.Numbers.{picked, and_left, and_right, least_is, least-none, least_hit, least_under}

@@ -6,8 +6,7 @@
 use Rattle.std.specs.Prelude.{ℕ, Bool, List, Result, Option, Some, None, [], ◌∷◌, ltb}
 use Rattle.ranges.specs.Numbers.{pick, ◌and◌, all, least}
 use Rattle.ranges.specs.Sides.{meet_of}
-use Rattle.ranges.specs.Refusals.{Said, says, unless}
-use Rattle.ranges.specs.declared.refusal.Refusal.{Refusal}
+use Rattle.ranges.specs.Refusals.{Refusal, Said, says, unless}
 use Rattle.lists.specs.Rules.{Rules, fields_of, rules_in, low_of, ends_at}
 use Rattle.lists.specs.Faults.{list_fault}
 

@@ -2,8 +2,7 @@
 -- Assumes nothing: these are definitions.
 use Rattle.std.specs.Prelude.{ℕ, Bool, List, Result, Option, Some, None, [], ◌∷◌}
 use Rattle.ranges.specs.Numbers.{◌and◌}
-use Rattle.ranges.specs.Refusals.{Said, says, unless}
-use Rattle.ranges.specs.declared.refusal.Refusal.{Refusal}
+use Rattle.ranges.specs.Refusals.{Refusal, Said, says, unless}
 use Rattle.lists.specs.Rules.{Rules, rules_in}
 use Rattle.lists.specs.Faults.{in_list, list_fault}
 use Rattle.lists.specs.FirstMatch.{fits, first_match}

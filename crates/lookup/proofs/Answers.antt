@@ -4,7 +4,7 @@
 use Prim.Native.Nat.{ℕ}
 use mathlib.Core.Path.{◌≡◌, refl, ap}
 use Rattle.std.specs.Prelude.{Option, Some, None, Result}
-use Rattle.ranges.specs.declared.refusal.Refusal.{Refusal}
+use Rattle.ranges.specs.Refusals.{Refusal}
 use Rattle.ranges.proofs.Numbers.{never, bit_one}
 use Rattle.ranges.proofs.Answers.{said_one}
 use Rattle.lookup.specs.Lookup.{looked_words, says_looked}

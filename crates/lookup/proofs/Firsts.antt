@@ -16,9 +16,8 @@ use native.Mathlib.Omega.{arith}
 use lib.Dec.{ltb}
 use borrow.Author.Tests.{ltb-true, ltb-false}
 use Rattle.std.specs.Prelude.{Option, Some, None, Result}
-use Rattle.ranges.specs.declared.refusal.Refusal.{Refusal}
 use Rattle.ranges.specs.Numbers.{least}
-use Rattle.ranges.specs.Refusals.{none}
+use Rattle.ranges.specs.Refusals.{Refusal, none}
 use Rattle.ranges.proofs.Numbers.{never, and_right, least_is, least-none}
 use Rattle.lists.specs.Rules.{Rules, fields_of, rules_in}
 use Rattle.lists.specs.FirstMatch.{fits, first_match}

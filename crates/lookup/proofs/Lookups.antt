@@ -8,8 +8,7 @@ use mathlib.Core.List.{List}
 use mathlib.Core.Path.{◌≡◌, sym, ◌∙◌}
 use native.Mathlib.Omega.{arith}
 use Rattle.std.specs.Prelude.{Result, Err}
-use Rattle.ranges.specs.Refusals.{none}
-use Rattle.ranges.specs.declared.refusal.Refusal.{Refusal}
+use Rattle.ranges.specs.Refusals.{Refusal, none}
 use Rattle.lists.specs.Limits.{most_rules}
 use Rattle.lists.specs.Rules.{Rules, fields_of, rules_in}
 use Rattle.tables.specs.Layout.{view}

@@ -12,7 +12,7 @@ use native.Mathlib.Omega.{arith}
 use lib.Dec.{ltb}
 use borrow.Author.Tests.{lt-ltb, le-ltb, ltb-true, ltb-false}
 use Rattle.std.specs.Prelude.{Result}
-use Rattle.ranges.specs.declared.refusal.Refusal.{Refusal}
+use Rattle.ranges.specs.Refusals.{Refusal}
 use Rattle.ranges.specs.Numbers.{least}
 use Rattle.ranges.proofs.Numbers.{never, picked, not_picked, least_is, least-none, least_hit, least_under}
 use Rattle.lists.specs.Rules.{Rules, rules_in}

@@ -15,9 +15,8 @@ use lib.Dec.{ltb, eqb}
 use borrow.Author.Tests.{ltb-true, ltb-false}
 use Rattle.std.specs.Prelude.{Option, Ok, Err, Result}
 use Rattle.ranges.specs.Numbers.{pick, ◌or◌}
-use Rattle.ranges.specs.Refusals.{Fault, none, refusing, refused, or_else}
+use Rattle.ranges.specs.Refusals.{Refusal, Fault, none, refusing, refused, or_else}
 use Rattle.ranges.specs.declared.refusal.Cause.TheVariants.{BadFields, BadLength, TooManyRules, BadTableLength, BrokenTable}
-use Rattle.ranges.specs.declared.refusal.Refusal.{Refusal}
 use Rattle.ranges.proofs.Numbers.{never}
 use Rattle.lists.specs.Limits.{most_rules}
 use Rattle.lists.specs.Rules.{Rules, fields_of, rules_in}

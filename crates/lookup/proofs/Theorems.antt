@@ -45,9 +45,8 @@ use mathlib.Core.Path.{◌≡◌, refl, sym, ap, ◌∙◌}
 use native.Mathlib.Omega.{arith}
 use Rattle.std.specs.Prelude.{Result, Ok, Err}
 use Rattle.ranges.specs.Numbers.{pick}
-use Rattle.ranges.specs.Refusals.{none, refused}
+use Rattle.ranges.specs.Refusals.{Refusal, none, refused}
 use Rattle.ranges.specs.declared.refusal.Cause.TheVariants.{BrokenTable}
-use Rattle.ranges.specs.declared.refusal.Refusal.{Refusal}
 use Rattle.lists.specs.Limits.{most_rules}
 use Rattle.lists.specs.declared.shape.Shape.{Shape}
 use Rattle.lists.specs.Rules.{Rules, listed, fields_of, rules_in}

@@ -19,9 +19,8 @@ use lib.Dec.{ltb}
 use lib.Pow.{pow_pos}
 use borrow.Author.Tests.{le-ltb, ltb-true, ltb-false}
 use Rattle.std.specs.Prelude.{None, Ok, Err, Result}
-use Rattle.ranges.specs.declared.refusal.Refusal.{Refusal}
 use Rattle.ranges.specs.Numbers.{pick}
-use Rattle.ranges.specs.Refusals.{Fault, none, or_else}
+use Rattle.ranges.specs.Refusals.{Refusal, Fault, none, or_else}
 use Rattle.ranges.proofs.Numbers.{never}
 use Rattle.lists.specs.Rules.{Rules, fields_of, rules_in}
 use Rattle.lists.specs.Edges.{edge_of}

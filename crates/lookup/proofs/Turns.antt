@@ -15,8 +15,7 @@ use lib.Dec.{ltb}
 use borrow.Author.Tests.{lt-ltb, le-ltb, ltb-true}
 use Rattle.std.specs.Prelude.{◌↔◌, Option, Some, None, unwrap_or, IsTrue, IsSomeAnd, Result}
 use Rattle.ranges.specs.Numbers.{◌and◌}
-use Rattle.ranges.specs.Refusals.{refused}
-use Rattle.ranges.specs.declared.refusal.Refusal.{Refusal}
+use Rattle.ranges.specs.Refusals.{Refusal, refused}
 use Rattle.ranges.specs.declared.refusal.Cause.TheVariants.{BrokenTable}
 use Rattle.ranges.proofs.Numbers.{never}
 use Rattle.lists.specs.Limits.{most_rules}

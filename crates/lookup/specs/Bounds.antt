@@ -3,7 +3,7 @@
 -- Assumes nothing: these are definitions.
 use Rattle.std.specs.Prelude.{ℕ, zero, suc, ◌+◌, ◌*◌, ◌/◌, ◌%◌, ◌^◌, ◌≤◌, ◌<◌, Bool, true, false, List, Option, None, Result, Ok, Err}
 use Rattle.ranges.specs.Numbers.{tab}
-use Rattle.ranges.specs.declared.refusal.Refusal.{Refusal}
+use Rattle.ranges.specs.Refusals.{Refusal}
 use Rattle.lists.specs.Rules.{Rules, listed, rules_in}
 use Rattle.tables.specs.Layout.{View}
 use Rattle.lookup.specs.Walk.{Walked}

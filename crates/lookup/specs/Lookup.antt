@@ -3,8 +3,7 @@
 -- Assumes nothing: these are definitions.
 use Rattle.std.specs.Prelude.{ℕ, zero, suc, ◌+◌, min, Bool, false, List, [], ◌∷◌, Option, Some, None, Result, Ok, Err, ltb}
 use Rattle.ranges.specs.Numbers.{pick, bit, ◌and◌}
-use Rattle.ranges.specs.Refusals.{refused, or_else, Said, says}
-use Rattle.ranges.specs.declared.refusal.Refusal.{Refusal}
+use Rattle.ranges.specs.Refusals.{Refusal, refused, or_else, Said, says}
 use Rattle.ranges.specs.declared.refusal.Cause.TheVariants.{BrokenTable}
 use Rattle.lists.specs.Rules.{Rules, fields_of, rules_in}
 use Rattle.lists.specs.Edges.{edge_of}

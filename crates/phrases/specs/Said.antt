@@ -2,7 +2,7 @@
 -- Assumes nothing: these are definitions.
 use Rattle.std.specs.Prelude.{ℕ, Bool, true, false, List, [], ◌∷◌, ◌++◌, Option, None, Some, Result, Ok, Err}
 use Rattle.ranges.specs.Refusals.{number_of}
-use Rattle.ranges.specs.declared.refusal.Refusal.{Refusal}
+use Rattle.ranges.specs.Refusals.{Refusal}
 use Rattle.ranges.specs.declared.prefix.Bounds.{Bounds}
 use Rattle.ranges.specs.declared.spot.Spot.{Spot}
 use Rattle.ranges.specs.declared.spot.Spot.TheVariants.{Below, AtLow, Between, AtHigh, AtBoth, Above}

@@ -11,9 +11,8 @@ use native.Mathlib.Omega.{arith}
 use lib.Dec.{eqb}
 use Rattle.std.specs.Prelude.{Result, Ok, Err}
 use Rattle.ranges.specs.Numbers.{pick}
-use Rattle.ranges.specs.Refusals.{number_of, refusing, Said, says, says_count, BadFields, BadLength, TooManyRules, LowAboveHigh, BadTableLength, BrokenTable, NoSuchPartition, BadLine, BadWidth, BadPrefix, BadRange, TooLittleRoom, BadRunLength, BadPartitionNumber, EmptyPartition, ClashInPartition}
+use Rattle.ranges.specs.Refusals.{Refusal, number_of, refusing, Said, says, says_count, BadFields, BadLength, TooManyRules, LowAboveHigh, BadTableLength, BrokenTable, NoSuchPartition, BadLine, BadWidth, BadPrefix, BadRange, TooLittleRoom, BadRunLength, BadPartitionNumber, EmptyPartition, ClashInPartition}
 use Rattle.ranges.specs.Prefixes.{says_bounds}
-use Rattle.ranges.specs.declared.refusal.Refusal.{Refusal}
 use Rattle.ranges.specs.declared.refusal.Cause.{Cause}
 use Rattle.ranges.specs.declared.prefix.Bounds.{Bounds}
 

@@ -3,11 +3,15 @@
 -- contract's `ensures`; `ps` and `r` are its parameters' and its result's types.
 -- Assumes nothing.
 use mathlib.Core.Path.{sym, ◌∙◌}
+use denote.RattleType.{RattleType}
+use denote.Param.Laws.{Laws}
 use Rattle.ranges.proofs.OneAnswer.{OneAnswer, OneRun}
 use Rattle.ranges.proofs.refusal.Cause.number.Kinds as number_kinds
 use Rattle.ranges.proofs.refusal.Cause.number.Reads as number_reads
 use Rattle.ranges.proofs.refusal.refuse.Kinds as refuse_kinds
 use Rattle.ranges.proofs.refusal.refuse.Reads as refuse_reads
+use Rattle.ranges.proofs.refusal.refuse_number.Kinds as refuse_number_kinds
+use Rattle.ranges.proofs.refusal.refuse_number.Reads as refuse_number_reads
 use Rattle.ranges.proofs.spot.spot_of.Kinds as spot_of_kinds
 use Rattle.ranges.proofs.spot.spot_of.Reads as spot_of_reads
 use Rattle.ranges.proofs.side.side_of.Kinds as side_of_kinds
@@ -36,8 +40,12 @@ use Rattle.ranges.proofs.expand.range_to_prefixes.Reads as range_to_prefixes_rea
 pub cause_number_one : OneAnswer 0 number_kinds.ps number_kinds.r number_reads.Learnt
 cause_number_one κs a x y e g p q = p ∙ sym q
 
-pub refuse_one : OneAnswer 0 refuse_kinds.ps refuse_kinds.r refuse_reads.Learnt
-refuse_one κs a x y e g p q = p ∙ sym q
+-- for whatever type names the cause, u32 and `Cause` among them
+pub refuse_one : (C : RattleType) (laws : Laws C) → OneAnswer 1 (refuse_kinds.ps C laws) (refuse_kinds.r C laws) (refuse_reads.Learnt C laws)
+refuse_one C laws κs a x y e g p q = p ∙ sym q
+
+pub refuse_number_one : OneAnswer 0 refuse_number_kinds.ps refuse_number_kinds.r refuse_number_reads.Learnt
+refuse_number_one κs a x y e g p q = p ∙ sym q
 
 pub spot_of_one : OneAnswer 0 spot_of_kinds.ps spot_of_kinds.r spot_of_reads.Learnt
 spot_of_one κs a x y e g p q = p ∙ sym q

@@ -13,8 +13,7 @@ use mathlib.Core.Logic.{◌↔◌}
 use mathlib.Core.Path.{◌≡◌, refl, sym, ap, ◌∙◌}
 use Rattle.std.specs.Prelude.{Result, Ok, Err}
 use Rattle.ranges.specs.Numbers.{pick}
-use Rattle.ranges.specs.Refusals.{Fault, none, or_else, stands, unless, number_in}
-use Rattle.ranges.specs.declared.refusal.Refusal.{Refusal}
+use Rattle.ranges.specs.Refusals.{Refusal, Fault, none, or_else, stands, unless, number_in}
 use Rattle.ranges.proofs.Numbers.{never}
 use Rattle.ranges.proofs.Answers.{number_some}
 

@@ -13,10 +13,9 @@ use lib.Dec.{ltb, leb, eqb}
 use lib.Pow.{suc_ones}
 use borrow.Author.Tests.{lt-ltb, le-ltb, ltb-true, ltb-false, le-leb, lt-leb, leb-true, eq-eqb, ne_eqb, eqb-false, not-true}
 use Rattle.ranges.specs.Numbers.{pick, ◌or◌}
-use Rattle.ranges.specs.Refusals.{none, refused, unless, number_in, BadWidth, BadPrefix}
+use Rattle.ranges.specs.Refusals.{Refusal, none, refused, unless, number_in, BadWidth, BadPrefix}
 use Rattle.ranges.specs.Prefixes.{bad_width, bad_prefix, prefix_fault, bounds_at, bounds_of}
 use Rattle.ranges.specs.declared.prefix.Bounds.{Bounds}
-use Rattle.ranges.specs.declared.refusal.Refusal.{Refusal}
 use Rattle.ranges.proofs.Numbers.{or_iff, or_neither}
 
 -- what k ones bound from below needs more than k bits

@@ -15,9 +15,8 @@ use lib.Dec.{ltb, leb}
 use borrow.Author.Tests.{lt-ltb, le-ltb, le-leb, lt-leb, ltb-false, leb-false}
 use Rattle.ranges.specs.Numbers.{pick, ◌or◌}
 use Rattle.ranges.specs.Sides.{end_of}
-use Rattle.ranges.specs.Refusals.{none, refused, refused_at, BadWidth, BadRange, TooLittleRoom}
+use Rattle.ranges.specs.Refusals.{Refusal, none, refused, refused_at, BadWidth, BadRange, TooLittleRoom}
 use Rattle.ranges.specs.Blocks.{Ranged, bad_range, prefixes_of, range_fault, expand_of, run_after, written}
-use Rattle.ranges.specs.declared.refusal.Refusal.{Refusal}
 use Rattle.ranges.proofs.InARow.{not-none}
 use Rattle.ranges.proofs.Sides.{past_high, within_high}
 

@@ -1,4 +1,5 @@
 -- The headline statements of layer 1, in the order of DESIGN's list. What the functions return is their contract; these say what that means.
+--         refuse_says              a refusal as it is made has the cause or the number that was given, whatever that is, and place 0
 --     T1  prefix_holds             the range of a prefix is the numbers that agree with it in its first bits
 --         prefix_stands            a prefix that meets neither 9 nor 10 has this range
 --         prefix_9_iff             a prefix is refused by 9 exactly when the width is not 1 to 32
@@ -32,7 +33,7 @@ use lib.ListN.{length, get_or, drop}
 use lib.Arith.{digits_div}
 use lib.Pow.{pow_pos}
 use lib.Seq.{get_or-append-add, get_or-drop}
-use Rattle.ranges.specs.Refusals.{none, refused, BadWidth, BadPrefix}
+use Rattle.ranges.specs.Refusals.{refusing, none, refused, BadWidth, BadPrefix}
 use Rattle.ranges.specs.Spots.{spot_of, at_end}
 use Rattle.ranges.specs.Sides.{end_of, past_of, side_of, void_of}
 use Rattle.ranges.specs.Prefixes.{bounds_of, last_of}
@@ -48,6 +49,14 @@ use Rattle.ranges.proofs.Prefixes.{NoPrefix, bounds_9_iff, bounds_10_iff, bounds
 use Rattle.ranges.proofs.Passes.{flat-length}
 use Rattle.ranges.proofs.Cover.{Each, TurnsBack, Largest, holders, prefixes_chain, chain_one, chain_before, chain_past, prefixes_turn_back, prefixes_largest}
 use Rattle.ranges.proofs.Few.{few_prefixes, one_prefix}
+
+-- a refusal as it is made has the cause or the number that was given, of a row or not, and place 0
+pub refuse_says : {C : Type 0} (cause : C) → ((refusing cause 0 0).cause ≡ cause) × ((refusing cause 0 0).at ≡ 0) × ((refusing cause 0 0).then ≡ 0)
+refuse_says cause = (refl, refl, refl)
+
+-- so the refusal of a number is of that number
+pub number_kept : (number : ℕ) → (refusing number 0 0).cause ≡ number
+number_kept number = (refuse_says number).0
 
 -- ---- T1
 -- a number lies from an aligned value to the end of its block exactly where it agrees with the value in all bits above the lowest k

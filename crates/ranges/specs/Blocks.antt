@@ -5,9 +5,8 @@
 use Rattle.std.specs.Prelude.{ℕ, zero, suc, Result, ◌+◌, ◌-◌, ◌*◌, ◌/◌, ◌%◌, ◌^◌, ◌≤◌, ◌<◌, Bool, List, [], ◌∷◌, ◌++◌, length, drop, ltb, leb, eqb}
 use Rattle.ranges.specs.Numbers.{pick, ◌and◌, ◌or◌, greatest}
 use Rattle.ranges.specs.Sides.{end_of}
-use Rattle.ranges.specs.Refusals.{Fault, none, refused, refused_at, or_else, stands, unless, BadWidth, BadRange, TooLittleRoom}
+use Rattle.ranges.specs.Refusals.{Refusal, Fault, none, refused, refused_at, or_else, stands, unless, BadWidth, BadRange, TooLittleRoom}
 use Rattle.ranges.specs.Prefixes.{bad_width}
-use Rattle.ranges.specs.declared.refusal.Refusal.{Refusal}
 
 -- the block of 2 ^ t numbers from low on is aligned and stays in the range low to high
 unfoldable pub block_fits : ℕ → ℕ → ℕ → Bool

@@ -4,8 +4,7 @@
 -- Assumes nothing: these are definitions.
 use Rattle.std.specs.Prelude.{ℕ, ◌+◌, ◌-◌, ◌%◌, ◌^◌, Bool, not, Result, [], ◌∷◌, ltb, leb, eqb}
 use Rattle.ranges.specs.Numbers.{pick, ◌or◌}
-use Rattle.ranges.specs.Refusals.{Fault, none, refused, unless, Said, says, BadWidth, BadPrefix}
-use Rattle.ranges.specs.declared.refusal.Refusal.{Refusal}
+use Rattle.ranges.specs.Refusals.{Refusal, Fault, none, refused, unless, Said, says, BadWidth, BadPrefix}
 use Rattle.ranges.specs.declared.prefix.Bounds.{Bounds}
 
 -- 9: the width is not 1 to 32

@@ -2,7 +2,7 @@
 -- applies is said where its call is defined, in the order of rows. 13 and 14 are W1's.
 -- Assumes nothing: these are definitions.
 use Rattle.std.specs.Prelude.{ℕ, Bool, true, false, List, [], ◌∷◌, Result, Ok, Err}
-use Rattle.ranges.specs.declared.refusal.Refusal.{Refusal}
+use Rattle.ranges.specs.declared.refusal.Refusal.{Refusal as RefusalOf}
 use Rattle.ranges.specs.declared.refusal.Cause.{Cause}
 pub use Rattle.ranges.specs.declared.refusal.Cause.TheVariants.{BadFields, BadLength, TooManyRules, LowAboveHigh, BadTableLength, BrokenTable, NoSuchPartition, BadLine, BadWidth, BadPrefix, BadRange, TooLittleRoom, BadRunLength, BadPartitionNumber, EmptyPartition, ClashInPartition}
 
@@ -25,8 +25,12 @@ number_of BadPartitionNumber = 16
 number_of EmptyPartition = 17
 number_of ClashInPartition = 18
 
--- a refusal for a cause, at a place of two numbers
-abbrev pub refusing : Cause → ℕ → ℕ → Refusal
+-- a refusal for one of the rows' causes
+abbrev pub Refusal : Type 0
+Refusal = RefusalOf Cause
+
+-- a refusal for a cause or of a number, at a place of two numbers
+abbrev pub refusing : {C : Type 0} → C → ℕ → ℕ → RefusalOf C
 refusing c a t = record { cause = c; at = a; then = t }
 
 -- what a test for refusals answers: nothing is refused, or the refusal

@@ -48,16 +48,16 @@ impl Cause {
     }
 }
 
-// A refusal: its cause, and its place of two numbers.
+// A refusal: its cause, one of the rows' or, where the type says so, another or any number, and its place of two numbers.
 #[derive(Clone, Copy, PartialEq, Eq)]
-pub struct Refusal {
-    pub cause: Cause,
+pub struct Refusal<C = Cause> {
+    pub cause: C,
     pub at: usize,
     pub then: usize,
 }
 
-// Makes the refusal for a cause, with place 0.
-pub fn refuse(cause: Cause) -> Refusal
+// Makes the refusal for a cause or of any number, with place 0.
+pub fn refuse<C>(cause: C) -> Refusal<C>
     ensures { result ≡ refusing cause 0 0 }
 {
     Refusal {
@@ -65,4 +65,11 @@ pub fn refuse(cause: Cause) -> Refusal
         at: 0,
         then: 0,
     }
+}
+
+// Makes the refusal of a number, which need be no row's, with place 0.
+pub fn refuse_number(number: u32) -> Refusal<u32>
+    ensures { result ≡ refusing number 0 0 }
+{
+    refuse(number)
 }

@@ -14,10 +14,9 @@ use lib.ListN.{length, take, drop}
 use lib.Dec.{ltb, eqb}
 use Rattle.std.specs.Prelude.{None, Ok, Err, IfErr}
 use Rattle.ranges.specs.Numbers.{pick, least}
-use Rattle.ranges.specs.Refusals.{Fault, none, refused, refused_at, or_else, unless, stands}
+use Rattle.ranges.specs.Refusals.{Refusal, Fault, none, refused, refused_at, or_else, unless, stands}
 use Rattle.ranges.specs.declared.refusal.Cause.TheVariants.{BadFields, BadLength, TooManyRules, LowAboveHigh, BadTableLength}
 use Rattle.ranges.proofs.InARow.{not-none}
-use Rattle.ranges.specs.declared.refusal.Refusal.{Refusal}
 use Rattle.ranges.proofs.Numbers.{least_le}
 use Rattle.lists.specs.Rules.{Rules, fields_of, rules_in, is_void, shape_of}
 use Rattle.lists.specs.declared.shape.Shape.{Shape}

@@ -5,7 +5,7 @@
 use Rattle.std.specs.Prelude.{ℕ, ◌+◌, ◌%◌, Bool, List, [], ◌∷◌, ltb, leb, eqb, Option, None, Some, Result, Ok, Err}
 use Rattle.std.specs.Option.{option_or}
 use Rattle.ranges.specs.Numbers.{pick}
-use Rattle.ranges.specs.declared.refusal.Refusal.{Refusal}
+use Rattle.ranges.specs.Refusals.{Refusal}
 use Rattle.lists.specs.Limits.{most_rules}
 use Rattle.lists.specs.Rules.{Rules, low_of, high_of}
 use Rattle.lists.specs.Faults.{list_fault}

@@ -4,9 +4,8 @@
 -- Assumes nothing: these are definitions.
 use Rattle.std.specs.Prelude.{ℕ, Bool, not, List, ◌≡◌, length, ltb, eqb, Result}
 use Rattle.ranges.specs.Numbers.{pick, ◌and◌, all}
-use Rattle.ranges.specs.Refusals.{Fault, none, refused, or_else, stands, unless}
+use Rattle.ranges.specs.Refusals.{Refusal, Fault, none, refused, or_else, stands, unless}
 use Rattle.ranges.specs.declared.refusal.Cause.TheVariants.{BadRunLength, BadPartitionNumber, EmptyPartition, ClashInPartition}
-use Rattle.ranges.specs.declared.refusal.Refusal.{Refusal}
 use Rattle.lists.specs.Rules.{Rules, rules_in}
 use Rattle.lists.specs.Faults.{list_fault}
 use Rattle.ordering.specs.Order.{clash}

@@ -3,8 +3,7 @@
 -- Assumes nothing: these are definitions.
 use Rattle.std.specs.Prelude.{ℕ, List, ◌≡◌, Result}
 use Rattle.ranges.specs.Numbers.{pick}
-use Rattle.ranges.specs.Refusals.{Fault, none, or_else, stands, unless}
-use Rattle.ranges.specs.declared.refusal.Refusal.{Refusal}
+use Rattle.ranges.specs.Refusals.{Refusal, Fault, none, or_else, stands, unless}
 use Rattle.lists.specs.Rules.{Rules, fields_of, rules_in}
 use Rattle.lists.specs.Faults.{list_fault}
 use Rattle.sorting.specs.FirstFit.{first_fit, parts}

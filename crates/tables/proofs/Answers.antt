@@ -4,7 +4,7 @@
 use mathlib.Core.List.{[], ◌∷◌}
 use mathlib.Core.Path.{◌≡◌}
 use Rattle.std.specs.Prelude.{Result}
-use Rattle.ranges.specs.declared.refusal.Refusal.{Refusal}
+use Rattle.ranges.specs.Refusals.{Refusal}
 use Rattle.ranges.proofs.Answers.{said_one}
 use Rattle.tables.specs.Report.{says_part}
 use Rattle.tables.specs.declared.report.Part.{Part}

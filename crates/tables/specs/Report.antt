@@ -4,9 +4,8 @@
 -- Assumes nothing: these are definitions.
 use Rattle.std.specs.Prelude.{ℕ, suc, ◌-◌, List, [], ◌∷◌, Result, ltb}
 use Rattle.ranges.specs.Numbers.{pick, ◌and◌}
-use Rattle.ranges.specs.Refusals.{Fault, none, refused, or_else, unless, Said, says}
+use Rattle.ranges.specs.Refusals.{Refusal, Fault, none, refused, or_else, unless, Said, says}
 use Rattle.ranges.specs.declared.refusal.Cause.TheVariants.{BrokenTable, NoSuchPartition}
-use Rattle.ranges.specs.declared.refusal.Refusal.{Refusal}
 use Rattle.lists.specs.Rules.{Rules, rules_in}
 use Rattle.tables.specs.Layout.{View}
 use Rattle.tables.specs.Opening.{part_stands, view_of, open_fault}

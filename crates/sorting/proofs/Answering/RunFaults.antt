@@ -17,8 +17,7 @@ use lib.Dec.{eqb}
 use borrow.Author.Tests.{eq-eqb, ne_eqb, eqb-true, eqb-false, not-true, not-false}
 use Rattle.ranges.specs.Numbers.{pick}
 use Rattle.std.specs.Prelude.{Err}
-use Rattle.ranges.specs.Refusals.{Fault, none, refusing, refused, or_else, number_of, number_in}
-use Rattle.ranges.specs.declared.refusal.Refusal.{Refusal}
+use Rattle.ranges.specs.Refusals.{Refusal, Fault, none, refusing, refused, or_else, number_of, number_in}
 use Rattle.ranges.specs.declared.refusal.Cause.TheVariants.{BadRunLength, BadPartitionNumber, EmptyPartition, ClashInPartition}
 use Rattle.ranges.proofs.InARow.{not-none, else_none, else_iff, test_none, test_iff}
 use Rattle.lists.specs.Limits.{most_rules}
