@@ -20,11 +20,12 @@ fn put_refusal<const N: usize>(refusal: Refusal, answer: &mut [u64; N]) -> u32
     requires { 3 ≤ N }
     ensures { Told (N - 3) (says_refusal refusal) result answer.new }
 {
+    let number = refusal.cause.number();
     answer.fill(0);
-    answer[0] = refusal.cause.number() as u64;
+    answer[0] = number as u64;
     answer[1] = refusal.at as u64;
     answer[2] = refusal.then as u64;
-    refusal.cause.number()
+    number
 }
 
 // Writes what is counted, and gives the refusal number.
