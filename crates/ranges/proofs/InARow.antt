@@ -1,5 +1,5 @@
 -- Laws of refusals in a row (`specs/Refusals.antt`, `or_else`), of which the first is given, and of what is answered where none is.
---     or_err, or_ok, none_ok               a row whose first refuses, and one whose first does not, as a callee answered
+--     or_err, err_fails, err_kept; or_ok, ok_written   a row whose first refuses, and one whose first does not, as a callee answered
 --     not-none, by_number                  what refuses is not none; what has the number 0 is none
 --     else_none, else_iff, else_first      neither refuses; a refusal that is not the first one's; one that is
 --     test_none, test_iff                  a refusal that is given where a test fails
