@@ -3,6 +3,7 @@
 --     from_none, from_broken, from_on          no partition left; a broken one; one that was not
 --     onward, made_broken, made_on             the same, with the candidate of those before
 --     Visited, visited-..                      what `visit_all` keeps at its loop's head, its turn and its ways out
+--     ends_nothing, ends_match                 so that the ways out give the search's answer
 -- Assumes nothing.
 use Prim.Native.Nat.{ℕ, suc, ◌+◌, ◌-◌, ◌*◌, min, ◌≤◌, ◌<◌}
 use mathlib.Core.Bool.{Bool, true, false}
@@ -180,3 +181,11 @@ module _ {R : Rules} {v : View} {h : List ℕ} {n b q : ℕ} {best : Option ℕ}
   visited_nothing le is =
       let over : rules_in R ≤ n = omega (arith, seen.rules) in
       visited_all le ∙ rw (is, le-ltb n (rules_in R) over)
+
+  -- so that these are what the search gives, of b partitions, as read
+  module _ (is_b : b ≡ v.b) where
+    pub ends_nothing : b ≤ q → best ≡ None → unmatched t ≡ search_of R v h
+    ends_nothing le is = sym (visited_nothing le is) ∙ searched R v h seen.rules is_b
+
+    pub ends_match : Shaped R → (i : ℕ) (e : Bool) → e ≡ rule_edge R h i → b ≤ q → best ≡ Some i → matched i t e ≡ search_of R v h
+    ends_match shape i e is-e le is = sym (visited_match shape le i is e is-e) ∙ searched R v h seen.rules is_b

@@ -5,19 +5,17 @@ use Rattle.ranges.specs.Refusals.{refused}
 use Rattle.ranges.specs.declared.refusal.Cause.TheVariants.{BrokenTable}
 use native.Mathlib.Omega.{arith}
 use Rattle.lookup.proofs.Within.{few_rules, few_fields, least-read}
-use Rattle.lookup.proofs.Turns.{visited_skipped, visited_broken, visited_on, visited_match, visited_nothing, searched}
+use Rattle.lookup.proofs.Turns.{visited_skipped, visited_broken, visited_on, ends_nothing, ends_match, searched}
 use Rattle.lookup.proofs.lookup.visit_all.Goals as goal
 
 -- none
 pub returns-in_default : goal.returns-in_default
-returns-in_default c =
-    sym (visited_nothing c.loop-q.invariant (omega arith) c.in_default.is) ∙ searched _ _ _ c.requires.ready.rules c.part_count-b.ensures
+returns-in_default c = grind (arith, ends_nothing c.loop-q.invariant c.part_count-b.ensures)
 
 -- a match
 pub returns : goal.returns
 returns c =
-    sym (visited_match c.loop-q.invariant c.requires.ready.shape_stands (omega arith) _ c.in-Some.is _ c.rule_edge-edge.ensures)
-    ∙ searched _ _ _ c.requires.ready.rules c.part_count-b.ensures
+    grind (arith, ends_match c.loop-q.invariant c.part_count-b.ensures c.requires.ready.shape_stands c.in-Some.i c.rule_edge-edge.result c.rule_edge-edge.ensures)
 
 -- a broken partition
 pub returns-in_err-found : goal.returns-in_err-found
