@@ -2,7 +2,7 @@
 // not so before: a caller who needs every byte makes room first.
 ghost use Rattle.std.specs.Prelude.{[], ◌∷◌};
 ghost use Rattle.text.specs.Decimals.{decimal_of};
-ghost use Rattle.text.specs.Puts.{Puts};
+ghost use Rattle.text.specs.Puts.{Put, Puts};
 
 // A lent run of bytes, and the place in it where the next one goes.
 #[derive(Drop)]
@@ -11,24 +11,34 @@ pub struct Out<'a> {
     pub at: usize,
 }
 
+// Puts one byte at a place, where there is one, and answers the next place.
+fn put_byte(byte: u8, out: &mut [u8], at: usize) -> usize
+    ensures { Put out.old at (byte ∷ []) out.new result }
+{
+    if at < out.len() {
+        out[at] = byte;
+        return at + 1;
+    }
+    at
+}
+
 impl Out<'_> {
     // Puts one byte, where there is a place.
     pub fn byte(&mut self, byte: u8)
         ensures { Puts self.old (byte ∷ []) self.new }
     {
-        if self.at < self.bytes.len() {
-            self.bytes[self.at] = byte;
-            self.at += 1;
-        }
+        self.at = put_byte(byte, self.bytes, self.at);
     }
 
     // Puts bytes, as far as there are places.
     pub fn text(&mut self, text: &[u8])
         ensures { Puts self.old text.now self.new }
     {
-        for byte in text {
-            self.byte(*byte);
+        let mut at = self.at;
+        for i in 0..text.len() {
+            at = put_byte(text[i], self.bytes, at);
         }
+        self.at = at;
     }
 
     // Puts a number's decimal digits, as far as there are places.

@@ -4,5 +4,5 @@ use lib.ListN.{take}
 use Rattle.text.specs.Puts.{Puts}
 use Rattle.text.proofs.put.Out.text.Given as goal
 
-abbrev pub invariant-loop-byte : goal.invariant-loop-byte
-invariant-loop-byte l = Puts l.initial.self (take l.byte-index l.text) l.self
+abbrev pub invariant-loop-i : goal.invariant-loop-i
+invariant-loop-i l = Puts l.initial.self (take l.i l.text) (record l.self { at = l.at })
