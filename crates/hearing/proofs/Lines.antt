@@ -1,13 +1,15 @@
 -- Laws of a line heard byte by byte (`specs/Lines.antt`).
 --     line_within, line_empty, line_here, line_past     the first LF
 --     number_named                                      one byte more of a number: the name has ended all the same
+--     heard_all                                         the rest's bytes after the first ones
 -- Assumes nothing.
-use Prim.Native.Nat.{ℕ, suc, ◌+◌, ◌≤◌}
+use Prim.Native.Nat.{ℕ, suc, ◌+◌, ◌-◌, ◌≤◌}
 use mathlib.Core.Bool.{Bool, true, false, not}
 use mathlib.Core.List.{List, [], ◌∷◌}
-use mathlib.Core.Path.{◌≡◌, refl}
+use mathlib.Core.Path.{◌≡◌, refl, ap, ◌∙◌}
 use native.Mathlib.Omega.{arith}
-use lib.ListN.{length}
+use lib.ListN.{length, take, drop}
+use lib.Seq.{take_all}
 use lib.Dec.{eqb}
 use Rattle.std.specs.List.{prefix_len}
 use Rattle.std.proofs.lemmas.List.Folds.{length-prefix_len}
@@ -15,7 +17,9 @@ use Rattle.std.proofs.lemmas.List.Sums.{prefix_len-le-length}
 use Rattle.ranges.specs.Numbers.{pick}
 use Rattle.hearing.specs.declared.line.Line.{Line}
 use Rattle.hearing.specs.Flags.{flags_with, has_colon}
-use Rattle.hearing.specs.Lines.{line_in, cell_with, flagged, number_with}
+use Rattle.text.specs.Cells.{fed}
+use Rattle.text.proofs.Feeding.{fed_rest}
+use Rattle.hearing.specs.Lines.{Heard, heard_byte, HeardFirst, line_in, cell_with, flagged, number_with}
 use Rattle.hearing.specs.declared.flags.Flags.TheVariants.{Read}
 
 -- ---- the first LF
@@ -54,3 +58,16 @@ number_named line b = go (eqb line.row.cells 0) (has_colon line.flags) (eqb b 58
     go true false true = refl
     go true false false = refl
     go false t u = refl
+
+-- ---- bytes
+abbrev pub rest_of : List ℕ → ℕ → List ℕ
+rest_of bytes count = take (length bytes - count) (drop count bytes)
+
+-- the rest's bytes after the first ones
+pub heard_all : {s t u : Heard} {bytes : List ℕ} {count : ℕ} (k : ℕ) → HeardFirst s bytes count t → u ≡ fed heard_byte t (take k (rest_of bytes count))
+    → length (rest_of bytes count) ≤ k → u ≡ fed heard_byte s bytes
+heard_all {s} {t} {u} {bytes} {count} k first more all =
+    more
+    ∙ ap (fed heard_byte t) (take_all k (rest_of bytes count) all)
+    ∙ ap (λ h. fed heard_byte h (rest_of bytes count)) first.left
+    ∙ fed_rest heard_byte s bytes count

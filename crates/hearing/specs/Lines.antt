@@ -2,9 +2,10 @@
 -- LF ends it. Read byte by byte, as the code goes. `answer_to` of the crate `calls` speaks of a whole line's bytes instead; that the two
 -- agree is `line_is` there. 32 is the blank, 58 the colon.
 -- Assumes nothing: these are definitions.
-use Rattle.std.specs.Prelude.{ℕ, Bool, true, false, List, length, set, eqb, not}
+use Rattle.std.specs.Prelude.{ℕ, ◌≤◌, ◌≡◌, Bool, true, false, List, length, take, set, eqb, not}
 use Rattle.std.specs.List.{take_while}
 use Rattle.ranges.specs.Numbers.{pick}
+use Rattle.text.specs.Cells.{fed}
 use Rattle.text.specs.Rows.{fresh, row_with, row_next, kept_at}
 use Rattle.text.specs.Puts.{place_after}
 use Rattle.text.specs.declared.row.Row.{Row}
@@ -74,3 +75,9 @@ heard_byte s b =
     pick s.line.named
     (pick (eqb b 32) (number_ends s) (number_takes s b))
     (pick (eqb b 32) (name_ends s) (name_takes s b))
+
+-- ---- bytes
+-- s is the line before the first `count` bytes, t the line after them
+pub record HeardFirst (s : Heard) (bytes : List ℕ) (count : ℕ) (t : Heard) : Type 0 where
+  pub few : count ≤ length bytes
+  pub left : t ≡ fed heard_byte s (take count bytes)
