@@ -8,8 +8,7 @@ use mathlib.Core.Path.{◌≡◌, sym, ap, ◌∙◌}
 use lib.ListN.{take}
 use Rattle.ranges.proofs.OneAnswer.{OneAnswer, OneRun}
 use Rattle.text.specs.Cells.{fed}
-use Rattle.text.specs.Puts.{Puts}
-use Rattle.text.specs.declared.put.Out.{Out}
+use Rattle.text.specs.Puts.{Put}
 use Rattle.text.proofs.Determined.{place_one, bytes_one}
 use Rattle.calls.specs.declared.reply.Place.{Place}
 use Rattle.hearing.specs.Lines.{Heard, heard}
@@ -43,50 +42,49 @@ pub answer_bytes_one : OneRun 4 answer_kinds.ps answer_kinds.r answer_reads.Lear
 answer_bytes_one κs a x y e g p q = bytes_one p.0.puts.put q.0.puts.put
 
 -- ---- reply
--- where serving has come to, the line's two runs, and the place and the bytes of the answers
-module _ {s : Heard} {bytes : List ℕ} {old new new' : Out} {x y : Place} {name name' numbers numbers' : List ℕ}
-    (p : ServedLines s bytes old (heard x.line name numbers) x.next new) (q : ServedLines s bytes old (heard y.line name' numbers') y.next new') where
+-- where serving has come to, the line's two runs, and the answers' bytes
+module _ {s : Heard} {bytes out : List ℕ} {x y : Place} {name name' numbers numbers' after after' : List ℕ}
+    (p : ServedLines s bytes out (heard x.line name numbers) x.next after x.at)
+    (q : ServedLines s bytes out (heard y.line name' numbers') y.next after' y.at) where
   next_one : x.next ≡ y.next
   next_one = p.count ∙ sym q.count
 
   heard_one : heard x.line name numbers ≡ heard y.line name' numbers'
   heard_one = p.left ∙ ap (λ k. fed served_byte s (take k bytes)) next_one ∙ sym q.left
 
-  said_at : Puts old (said_to s (take y.next bytes)) new
+  said_at : Put out 0 (said_to s (take y.next bytes)) after x.at
   said_at = rw next_one at p.said
+
+  pub serve_lines_at_one : x.at ≡ y.at
+  serve_lines_at_one = place_one said_at q.said
 
   placed_one : x ≡ y
   placed_one =
       let line : x.line ≡ y.line = ap (λ h. h.line) heard_one in
+      let at = serve_lines_at_one in
       let next = next_one in
-      rw (line, next)
+      rw (line, next, at)
 
-  at_one : new.at ≡ new'.at
-  at_one = place_one said_at.put q.said.put
+  put_one : after ≡ after'
+  put_one = bytes_one said_at q.said
 
-  put_one : new.bytes.now ≡ new'.bytes.now
-  put_one = bytes_one said_at.put q.said.put
-
-pub serve_lines_one : OneAnswer 5 serve_lines_kinds.ps serve_lines_kinds.r serve_lines_reads.Learnt
+pub serve_lines_one : OneAnswer 4 serve_lines_kinds.ps serve_lines_kinds.r serve_lines_reads.Learnt
 serve_lines_one κs a x y e g p q = placed_one p q
 
-pub serve_lines_name_one : OneRun 5 serve_lines_kinds.ps serve_lines_kinds.r serve_lines_reads.Learnt (λ κs e. e.1.1.0.now)
+pub serve_lines_name_one : OneRun 4 serve_lines_kinds.ps serve_lines_kinds.r serve_lines_reads.Learnt (λ κs e. e.1.1.0.now)
 serve_lines_name_one κs a x y e g p q = ap (λ h. h.name) (heard_one p q)
 
-pub serve_lines_numbers_one : OneRun 5 serve_lines_kinds.ps serve_lines_kinds.r serve_lines_reads.Learnt (λ κs e. e.1.1.1.0.now)
+pub serve_lines_numbers_one : OneRun 4 serve_lines_kinds.ps serve_lines_kinds.r serve_lines_reads.Learnt (λ κs e. e.1.1.1.0.now)
 serve_lines_numbers_one κs a x y e g p q = ap (λ h. h.numbers) (heard_one p q)
 
-pub serve_lines_at_one : OneRun 5 serve_lines_kinds.ps serve_lines_kinds.r serve_lines_reads.Learnt (λ κs e. e.1.1.1.1.0.now.at)
-serve_lines_at_one κs a x y e g p q = at_one p q
-
-pub serve_lines_bytes_one : OneRun 5 serve_lines_kinds.ps serve_lines_kinds.r serve_lines_reads.Learnt (λ κs e. e.1.1.1.1.0.now.bytes.now)
+pub serve_lines_bytes_one : OneRun 4 serve_lines_kinds.ps serve_lines_kinds.r serve_lines_reads.Learnt (λ κs e. e.1.1.1.1.0.now)
 serve_lines_bytes_one κs a x y e g p q = put_one p q
 
-pub put_last_one : OneRun 4 put_last_kinds.ps put_last_kinds.r put_last_reads.Learnt (λ κs e. e.1.1.1.0.now.at)
-put_last_one κs a x y e g p q = place_one p.said.put q.said.put
+pub put_last_one : OneAnswer 3 put_last_kinds.ps put_last_kinds.r put_last_reads.Learnt
+put_last_one κs a x y e g p q = place_one p.said q.said
 
-pub put_last_numbers_one : OneRun 4 put_last_kinds.ps put_last_kinds.r put_last_reads.Learnt (λ κs e. e.1.1.0.now)
+pub put_last_numbers_one : OneRun 3 put_last_kinds.ps put_last_kinds.r put_last_reads.Learnt (λ κs e. e.1.1.0.now)
 put_last_numbers_one κs a x y e g p q = p.left_is ∙ sym q.left_is
 
-pub put_last_bytes_one : OneRun 4 put_last_kinds.ps put_last_kinds.r put_last_reads.Learnt (λ κs e. e.1.1.1.0.now.bytes.now)
-put_last_bytes_one κs a x y e g p q = bytes_one p.said.put q.said.put
+pub put_last_bytes_one : OneRun 3 put_last_kinds.ps put_last_kinds.r put_last_reads.Learnt (λ κs e. e.1.1.1.0.now)
+put_last_bytes_one κs a x y e g p q = bytes_one p.said q.said

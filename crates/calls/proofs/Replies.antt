@@ -1,13 +1,13 @@
 -- Laws of serving line by line (`specs/Replies.antt`).
 --     turn_most, came_more                 the first bytes are served: one turn of the loop
---     lines_full, lines_all                serving ends: there is no more room, or all bytes are served
+--     lines_full, lines_all                serving ends: there is no more room, or all bytes are served; the run is given back
 --     served_lines                         no more bytes are served than there are, and some
---     last_some                            the input's end: something has come of the last line
+--     last_none, last_some                 the input's end
 -- Assumes nothing.
 use Prim.Native.Nat.{ℕ, ◌+◌, ◌-◌, ◌≤◌, ◌<◌}
 use mathlib.Core.Bool.{true, false}
 use mathlib.Core.List.{List, [], ◌++◌}
-use mathlib.Core.Path.{◌≡◌, sym, ap, ◌∙◌}
+use mathlib.Core.Path.{◌≡◌, refl, sym, ap, ◌∙◌}
 use native.Mathlib.Omega.{arith}
 use borrow.Author.Tests.{leb-true}
 use lib.ListN.{length, take, drop, length-append, length-drop}
@@ -17,7 +17,7 @@ use Rattle.text.specs.Cells.{fed}
 use Rattle.text.specs.Puts.{Puts, place_after}
 use Rattle.text.specs.declared.put.Out.{Out}
 use Rattle.text.proofs.Feeding.{fed_append}
-use Rattle.text.proofs.Puts.{put_long, puts_then}
+use Rattle.text.proofs.Puts.{put_no_byte, put_long, puts_then}
 use Rattle.words.specs.Limits.{answer_most}
 use Rattle.phrases.specs.Few.{PutFew}
 use Rattle.words.proofs.Lent.{rest_lent}
@@ -127,37 +127,48 @@ module _ {s : Heard} {bytes : List ℕ} {old : Out} {t : Heard} {from : ℕ} {mi
       }
 
   -- there is none
-  pub lines_full : room_at (length new.bytes.now) new.at ≡ false → ServedLines s bytes old u (from + n) new
-  lines_full is =
+  pub lines_full : {given : List ℕ} → old.at ≡ 0 → room_at (length new.bytes.now) new.at ≡ false → given ≡ new.bytes.now
+      → ServedLines s bytes old.bytes.now u (from + n) given new.at
+  lines_full start is back =
       let count = turn_count ∙ ap (λ r. from + n + pick r (served_to size new.at u (drop (from + n) bytes)) 0) is in
+      let count = rw start at count in
+      let said = rw start at turn_said.put in
       record {
         count = omega (arith, count);
         left = turn_left;
-        said = turn_said;
-        whole = λ start enough. all-put (rw start at turn_said.put) (turn_fits start enough);
+        said = rw back said;
+        whole = λ enough. rw back (all-put said (turn_fits start enough));
       }
 
 -- all bytes are served
-pub lines_all : {s : Heard} {bytes : List ℕ} {old : Out} {t : Heard} {next : ℕ} {new : Out} → Came s bytes old t next new → length bytes ≤ next
-    → ServedLines s bytes old t next new
-lines_all {s} {bytes} {old} {t} {next} {new} came past =
+pub lines_all : {s : Heard} {bytes : List ℕ} {old : Out} {t : Heard} {next : ℕ} {new : Out} {given : List ℕ} → old.at ≡ 0 → Came s bytes old t next new → length bytes ≤ next
+    → given ≡ new.bytes.now → ServedLines s bytes old.bytes.now t next given new.at
+lines_all {s} {bytes} {old} {t} {next} {new} start came past back =
     let end : next ≡ length bytes = omega (arith, came.few) in
     let none : drop next bytes ≡ [] = ap (λ k. drop k bytes) end ∙ drop-length bytes in
     let count = came.count ∙ ap (λ l. next + served_to (length old.bytes.now) new.at t l) none in
+    let count = rw start at count in
+    let said = rw start at came.said.put in
     record {
       count = omega (arith, count);
       left = came.left;
-      said = came.said;
-      whole = λ start enough. all-put (rw start at came.said.put) (came.room start enough).none_lost;
+      said = rw back said;
+      whole = λ enough. rw back (all-put said (came.room start enough).none_lost);
     }
 
 -- no more bytes than there are, and some where there are some
-pub served_lines : (s : Heard) {bytes : List ℕ} {old : Out} {t : Heard} {next : ℕ} {new : Out} → ServedLines s bytes old t next new → 0 < length bytes
+pub served_lines : (s : Heard) {bytes out : List ℕ} {t : Heard} {next : ℕ} {after : List ℕ} {end : ℕ} → ServedLines s bytes out t next after end → 0 < length bytes
     → (0 < next) × (next ≤ length bytes)
-served_lines s {bytes} {old} served some =
-    (omega (arith, served.count, served_some bytes (length old.bytes.now) old.at s some), omega (arith, served.count, served_most bytes (length old.bytes.now) old.at s))
+served_lines s {bytes} {out} served some =
+    (omega (arith, served.count, served_some bytes (length out) 0 s some), omega (arith, served.count, served_most bytes (length out) 0 s))
 
 -- ---- the input's end
-pub last_some : {s : Heard} {old new : Out} {left : List ℕ} → begun_line s.line ≡ true → PutFew answer_most old (line_said s) new → left ≡ answer_left s
-    → ServedLast s old left new
-last_some begun put left_is = record { said = rw begun put.puts; left_is = rw begun left_is; whole = λ start enough. rw begun (all_few_put start put enough) }
+-- nothing has come of the last line
+pub last_none : {s : Heard} {out : List ℕ} → begun_line s.line ≡ false → ServedLast s out s.numbers out 0
+last_none none = record { said = rw none put_no_byte; left_is = rw none refl; whole = λ enough. rw none refl }
+
+-- something has; the run is given back
+pub last_some : {s : Heard} {old new : Out} {left given : List ℕ} → old.at ≡ 0 → begun_line s.line ≡ true → PutFew answer_most old (line_said s) new → left ≡ answer_left s
+    → given ≡ new.bytes.now → ServedLast s old.bytes.now left given new.at
+last_some start begun put left_is is =
+    record { said = rw (is, begun) (rw start at put.puts.put); left_is = rw begun left_is; whole = λ enough. rw (is, begun) (all_few_put start put enough) }

@@ -4,8 +4,7 @@
 use Rattle.std.specs.Prelude.{ℕ, suc, ◌+◌, ◌≤◌, Bool, true, not, List, [], ◌∷◌, ◌++◌, ◌≡◌, length, take, ltb, leb, eqb}
 use Rattle.ranges.specs.Numbers.{pick, ◌and◌}
 use Rattle.text.specs.Cells.{fed}
-use Rattle.text.specs.Puts.{Puts, place_after}
-use Rattle.text.specs.declared.put.Out.{Out}
+use Rattle.text.specs.Puts.{Put, place_after}
 use Rattle.words.specs.Limits.{answer_most}
 use Rattle.hearing.specs.declared.line.Line.{Line}
 use Rattle.hearing.specs.Lines.{Heard, heard, unheard, heard_byte}
@@ -46,14 +45,14 @@ served_to n at s (b ∷ bs) =
     let next = place_after n at (length (said_byte s b)) in
     suc (pick (eqb b 10 and not (room_at n next)) 0 (served_to n next (served_byte s b) bs))
 
--- s is the line before the bytes, t the line after those that are served. Of a run that has room for an answer, and to which nothing
--- had been put, the first bytes are all that is said, and nothing is left out; this does not follow from the rest, since only the code's
--- numbers are of so many bits that an answer is short
-pub record ServedLines (s : Heard) (bytes : List ℕ) (old : Out) (t : Heard) (next : ℕ) (new : Out) : Type 0 where
-  pub count : next ≡ served_to (length old.bytes.now) old.at s bytes
+-- s is the line before the bytes, t the line after those that are served. Of a run that has room for an answer the first bytes are
+-- all that is said, and nothing is left out; this does not follow from the rest, since only the code's numbers are of so many bits
+-- that an answer is short
+pub record ServedLines (s : Heard) (bytes out : List ℕ) (t : Heard) (next : ℕ) (after : List ℕ) (end : ℕ) : Type 0 where
+  pub count : next ≡ served_to (length out) 0 s bytes
   pub left : t ≡ fed served_byte s (take next bytes)
-  pub said : Puts old (said_to s (take next bytes)) new
-  pub whole : old.at ≡ 0 → answer_most ≤ length old.bytes.now → take new.at new.bytes.now ≡ said_to s (take next bytes)
+  pub said : Put out 0 (said_to s (take next bytes)) after end
+  pub whole : answer_most ≤ length out → take end after ≡ said_to s (take next bytes)
 
 -- ---- at the input's end
 -- something has come of a line
@@ -68,7 +67,7 @@ abbrev pub last_left : Heard → List ℕ
 last_left s = pick (begun_line s.line) (answer_left s) s.numbers
 
 -- and what the run of its numbers then holds is `left`
-pub record ServedLast (s : Heard) (old : Out) (left : List ℕ) (new : Out) : Type 0 where
-  pub said : Puts old (last_said s) new
+pub record ServedLast (s : Heard) (out left after : List ℕ) (end : ℕ) : Type 0 where
+  pub said : Put out 0 (last_said s) after end
   pub left_is : left ≡ last_left s
-  pub whole : old.at ≡ 0 → answer_most ≤ length old.bytes.now → take new.at new.bytes.now ≡ last_said s
+  pub whole : answer_most ≤ length out → take end after ≡ last_said s

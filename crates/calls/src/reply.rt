@@ -9,37 +9,37 @@ use hearing::line::{Line, hear, line_in, line_start};
 use text::put::Out;
 use words::limits::ANSWER_MOST;
 
-// Where serving has come to: the present line, and the next byte to serve.
+// Where serving has come to: the present line, the next byte to serve, and the next place for an answer.
 #[derive(Clone, Copy)]
 pub struct Place {
     pub line: Line,
     pub next: usize,
+    pub at: usize,
 }
 
-// Serves bytes up to the end of the present line, or all where it does not end in them: hears them, and puts the
-// answer where the line has ended.
+// Serves bytes up to the end of the present line, or all where it does not end in them: hears them, puts the answer where
+// the line has ended, and answers how many bytes were served.
 fn serve_line(
-    line: Line,
+    line: &mut Line,
     bytes: &[u8],
     name: &mut [u8],
     numbers: &mut [u32],
     out: &mut Out,
-) -> Place
-    ensures { Served (heard line name.old numbers.old) bytes.now out.old
-        (heard result.line name.new numbers.new) result.next out.new }
+) -> usize
+    ensures { Served (heard line.old name.old numbers.old) bytes.now out.old
+        (heard line.new name.new numbers.new) result out.new }
 {
     let k = line_in(bytes);
-    let more = hear(line, &bytes[..k], name, numbers);
+    let more = hear(*line, &bytes[..k], name, numbers);
     if k == bytes.len() {
-        return Place {
-            line: more,
-            next: k,
-        };
+        *line = more;
+        return k;
     }
     answer(more, name, numbers, out);
     let anew = line_start();
+    *line = anew;
     let next = k + 1;
-    Place { line: anew, next }
+    next
 }
 
 // Says whether there is room for one more answer.
@@ -50,35 +50,36 @@ fn has_room(out: &Out) -> bool
     out.at <= out.bytes.len() && ANSWER_MOST <= out.bytes.len() - out.at
 }
 
-// Serves bytes line by line, until all are served or there is no more room, and puts the answers. The first line is served in
-// any case.
+// Serves bytes line by line, until all are served or there is no more room, and puts the answers from the run's start
+// on. The first line is served in any case.
 pub fn serve_lines(
     line: Line,
     bytes: &[u8],
     name: &mut [u8],
     numbers: &mut [u32],
-    out: &mut Out,
+    out: &mut [u8],
 ) -> Place
     ensures { ServedLines (heard line name.old numbers.old) bytes.now out.old
-        (heard result.line name.new numbers.new) result.next out.new }
+        (heard result.line name.new numbers.new) result.next out.new result.at }
 {
+    let mut answers = Out { bytes: out, at: 0 };
     let mut present = line;
     let mut next = 0;
     // (No `for`: how many bytes a turn serves is not known before it.)
     while next < bytes.len() {
-        let place = serve_line(present, &bytes[next..], name, numbers, out);
-        present = place.line;
-        next += place.next;
-        if !has_room(out) {
+        next += serve_line(&mut present, &bytes[next..], name, numbers, &mut answers);
+        if !has_room(&answers) {
             return Place {
                 line: present,
                 next,
+                at: answers.at,
             };
         }
     }
     Place {
         line: present,
         next,
+        at: answers.at,
     }
 }
 
@@ -89,12 +90,15 @@ fn has_begun(line: Line) -> bool
     line.named || 0 < line.length
 }
 
-// Puts the answer to a last line that no LF ends, where anything has come of it.
-#[tactic(auto, using(crate::proofs::Replies::last_some))]
-pub fn put_last(line: Line, name: &[u8], numbers: &mut [u32], out: &mut Out)
-    ensures { ServedLast (heard line name.now numbers.old) out.old numbers.new out.new }
+// Puts the answer to a last line that no LF ends, where anything has come of it, from the run's start on, and answers the
+// place after it.
+pub fn put_last(line: Line, name: &[u8], numbers: &mut [u32], out: &mut [u8]) -> usize
+    ensures { ServedLast (heard line name.now numbers.old) out.old numbers.new out.new result }
 {
-    if has_begun(line) {
-        answer(line, name, numbers, out);
+    if !has_begun(line) {
+        return 0;
     }
+    let mut last = Out { bytes: out, at: 0 };
+    answer(line, name, numbers, &mut last);
+    last.at
 }

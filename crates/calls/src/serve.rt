@@ -7,7 +7,6 @@ use programs::output::{say_error, write_out};
 use programs::streams::Streams;
 use std::io::Read;
 use std::ops::ControlFlow;
-use text::put::Out;
 
 // Writes the first bytes of a run, as many as stand before a place, and answers whether that went well; where it did
 // not, says so on standard error.
@@ -31,12 +30,10 @@ fn serve_piece(
     let mut next = 0;
     // (No `for`: how many bytes a turn serves is not known before it.)
     while next < bytes.len() {
-        let mut answers = Out { bytes: out, at: 0 };
-        let place = serve_lines(present, &bytes[next..], name, numbers, &mut answers);
+        let place = serve_lines(present, &bytes[next..], name, numbers, out);
         present = place.line;
         next += place.next;
-        let at = answers.at;
-        if !flush(streams, out, at) {
+        if !flush(streams, out, place.at) {
             return ControlFlow::Break(false);
         }
     }
@@ -71,9 +68,7 @@ fn serve_last(
     numbers: &mut [u32],
     out: &mut [u8],
 ) -> bool {
-    let mut answers = Out { bytes: out, at: 0 };
-    put_last(line, name, numbers, &mut answers);
-    let at = answers.at;
+    let at = put_last(line, name, numbers, out);
     flush(streams, out, at)
 }
 

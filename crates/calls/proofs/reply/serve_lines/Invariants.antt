@@ -9,7 +9,7 @@ use Rattle.calls.proofs.reply.serve_lines.Given as goal
 
 abbrev pub invariant-loop-next : goal.invariant-loop-next
 invariant-loop-next l =
-    Came (heard l.initial.present l.initial.name l.initial.numbers) l.bytes l.initial.out (heard l.present l.name l.numbers) l.next l.out
+    Came (heard l.initial.present l.initial.name l.initial.numbers) l.bytes l.initial.answers (heard l.present l.name l.numbers) l.next l.answers
 
 abbrev pub decreases-loop-next : goal.decreases-loop-next
 decreases-loop-next l = length l.bytes - l.next
