@@ -1,14 +1,15 @@
 -- Laws of a line heard byte by byte (`specs/Lines.antt`).
---     line_within, line_empty, line_here, line_past     the first LF
+--     line_within, line_empty, line_here, line_past, line_ends, line_none     the first LF
 --     number_named                                      one byte more of a number: the name has ended all the same
 --     heard_all                                         the rest's bytes after the first ones
 -- Assumes nothing.
-use Prim.Native.Nat.{ℕ, suc, ◌+◌, ◌-◌, ◌≤◌}
+use Prim.Native.Nat.{ℕ, zero, suc, ◌+◌, ◌-◌, ◌≤◌, ◌<◌}
 use mathlib.Core.Bool.{Bool, true, false, not}
 use mathlib.Core.List.{List, [], ◌∷◌}
 use mathlib.Core.Path.{◌≡◌, refl, ap, ◌∙◌}
 use native.Mathlib.Omega.{arith}
-use lib.ListN.{length, take, drop}
+use borrow.Author.Tests.{eq-eqb, ne_eqb}
+use lib.ListN.{length, get_or, take, drop}
 use lib.Seq.{take_all}
 use lib.Dec.{eqb}
 use Rattle.std.specs.List.{prefix_len}
@@ -45,6 +46,18 @@ pub line_past : (b : ℕ) (bs : List ℕ) → eqb b 10 ≡ false → line_in (b 
 line_past b bs e =
     let one : before (b ∷ bs) ≡ 1 + before bs = rw e in
     omega (arith, one, line_counts (b ∷ bs), line_counts bs)
+
+-- the place of the first LF; with none, past the last byte
+pub line_ends : (bs : List ℕ) (i : ℕ) → i < length bs → ((k : ℕ) → k < i → get_or bs k 0 ≡ 10 → ⊥) → get_or bs i 0 ≡ 10 → line_in bs ≡ i
+line_ends [] i lt none here = absurd (omega arith)
+line_ends (b ∷ bs) zero lt none here = line_here b bs (eq-eqb b 10 here)
+line_ends (b ∷ bs) (suc i) lt none here =
+    line_past b bs (ne_eqb b 10 (none 0 (omega arith))) ∙ ap suc (line_ends bs i (omega arith) (λ k l. none (suc k) (omega arith)) here)
+
+pub line_none : (bs : List ℕ) → ((k : ℕ) → k < length bs → get_or bs k 0 ≡ 10 → ⊥) → line_in bs ≡ length bs
+line_none [] none = line_empty
+line_none (b ∷ bs) none =
+    line_past b bs (ne_eqb b 10 (none 0 (omega arith))) ∙ ap suc (line_none bs (λ k l. none (suc k) (omega arith)))
 
 -- ---- one byte more of a number
 -- the name has ended all the same
