@@ -63,8 +63,8 @@ put_named_one κs a x y e g p q = place_one p.put q.put
 pub put_named_run_one : OneRun 4 put_named_kinds.ps put_named_kinds.r put_named_reads.Learnt (λ κs e. e.1.1.0.now.bytes.now)
 put_named_run_one κs a x y e g p q = bytes_one p.put q.put
 
-pub put_complaint_one : OneRun 4 put_complaint_kinds.ps put_complaint_kinds.r put_complaint_reads.Learnt (λ κs e. e.1.1.1.0.now.at)
-put_complaint_one κs a x y e g p q = place_one p.put q.put
+pub put_complaint_one : OneAnswer 3 put_complaint_kinds.ps put_complaint_kinds.r put_complaint_reads.Learnt
+put_complaint_one κs a x y e g p q = place_one p q
 
-pub put_complaint_run_one : OneRun 4 put_complaint_kinds.ps put_complaint_kinds.r put_complaint_reads.Learnt (λ κs e. e.1.1.1.0.now.bytes.now)
-put_complaint_run_one κs a x y e g p q = bytes_one p.put q.put
+pub put_complaint_run_one : OneRun 3 put_complaint_kinds.ps put_complaint_kinds.r put_complaint_reads.Learnt (λ κs e. e.1.1.1.0.now)
+put_complaint_run_one κs a x y e g p q = bytes_one p q

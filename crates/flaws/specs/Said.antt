@@ -1,6 +1,6 @@
 -- A flaw's text, for a person: where it is, and what is wrong there. `path` is the file's name as given.
 -- Assumes nothing: these are definitions.
-use Rattle.std.specs.Prelude.{ℕ, ◌+◌, List, [], ◌++◌, ltb, eqb}
+use Rattle.std.specs.Prelude.{ℕ, ◌+◌, List, [], ◌++◌, ltb, eqb, Option, None, Some}
 use Rattle.ranges.specs.Numbers.{pick}
 use Rattle.text.specs.Rows.{exact_below}
 use Rattle.text.specs.Texts.{bytes}
@@ -40,15 +40,17 @@ abbrev pub void_said : ℕ → ℕ → ℕ → ℕ → List ℕ
 void_said rule field low high =
     bytes "line " ++ decimal_of (rule + 1) ++ bytes ", field " ++ decimal_of (field + 1) ++ bytes ": low " ++ decimal_of low ++ bytes " is above high " ++ decimal_of high
 
-abbrev pub flaw_said : List ℕ → Flaw → List ℕ
-flaw_said path NoLine = bytes "no line, where each is a rule of 2 to 16 cells"
-flaw_said path (NotNumber line cell) = bad_cell_said line cell
-flaw_said path LoneFeed = feed_said path
-flaw_said path (OtherWidth line cells width) = other_width_said line cells width
-flaw_said path (OddWidth cells) = first_width_said cells (bytes ", where a rule has two for each field")
-flaw_said path (TooWide cells) = first_width_said cells (bytes ", where a rule has at most 16")
-flaw_said path TooManyRules = bytes "line 1025: more than 1,024 rules"
-flaw_said path (LowAboveHigh rule field low high) = void_said rule field low high
+-- nothing where there is none
+abbrev pub flaw_said : List ℕ → Option Flaw → List ℕ
+flaw_said path None = []
+flaw_said path (Some NoLine) = bytes "no line, where each is a rule of 2 to 16 cells"
+flaw_said path (Some (NotNumber line cell)) = bad_cell_said line cell
+flaw_said path (Some LoneFeed) = feed_said path
+flaw_said path (Some (OtherWidth line cells width)) = other_width_said line cells width
+flaw_said path (Some (OddWidth cells)) = first_width_said cells (bytes ", where a rule has two for each field")
+flaw_said path (Some (TooWide cells)) = first_width_said cells (bytes ", where a rule has at most 16")
+flaw_said path (Some TooManyRules) = bytes "line 1025: more than 1,024 rules"
+flaw_said path (Some (LowAboveHigh rule field low high)) = void_said rule field low high
 
 -- ---- what a program says of a file
 -- the program's name and the file's
@@ -56,5 +58,5 @@ abbrev pub named_said : List ℕ → List ℕ → List ℕ
 named_said program path = program ++ bytes ": " ++ path
 
 -- a line: which file, where in it, and what is wrong there
-abbrev pub complaint_said : List ℕ → List ℕ → Flaw → List ℕ
+abbrev pub complaint_said : List ℕ → List ℕ → Option Flaw → List ℕ
 complaint_said program path flaw = named_said program path ++ bytes ": " ++ flaw_said path flaw ++ bytes "\n"

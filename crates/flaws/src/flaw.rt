@@ -1,6 +1,6 @@
 // What can be wrong with a rules file, and where.
 ghost use Rattle.std.specs.Prelude.{◌≡◌};
-ghost use Rattle.flaws.specs.Numbered.{flaw_number};
+ghost use Rattle.flaws.specs.Numbered.{number_of_flaw};
 
 use ranges::refusal::Cause;
 
@@ -42,10 +42,13 @@ pub enum Flaw {
     },
 }
 
-// Gives the number that 01 refuses a flaw by.
-pub fn flaw_number(flaw: Flaw) -> u32
-    ensures { result ≡ flaw_number flaw }
+// Gives the number that 01 refuses a flaw by; 0 where there is none.
+pub fn flaw_number(flaw: Option<Flaw>) -> u32
+    ensures { result ≡ number_of_flaw flaw }
 {
+    let Some(flaw) = flaw else {
+        return 0;
+    };
     let cause = match flaw {
         Flaw::NoLine | Flaw::TooWide { .. } => Cause::BadFields,
         Flaw::NotNumber { .. } | Flaw::LoneFeed | Flaw::OtherWidth { .. } | Flaw::OddWidth { .. } =>

@@ -1,5 +1,5 @@
 // A flaw's text, put at the place of a lent run.
-ghost use Rattle.text.specs.Puts.{Puts};
+ghost use Rattle.text.specs.Puts.{Put, Puts};
 ghost use Rattle.flaws.specs.Said.{count_said, plural_said, cells_said, not_number_said, feed_said, bad_cell_said, other_width_said, first_width_said, void_said, flaw_said, named_said, complaint_said};
 
 use crate::flaw::Flaw;
@@ -99,10 +99,13 @@ fn put_bad_cell(line: u32, cell: u32, out: &mut Out)
     put_not_number(cell, out);
 }
 
-// Puts a flaw's text; `path` is the file's name.
-pub fn put_flaw(flaw: Flaw, path: &[u8], out: &mut Out)
+// Puts a flaw's text, and nothing where there is none; `path` is the file's name.
+pub fn put_flaw(flaw: Option<Flaw>, path: &[u8], out: &mut Out)
     ensures { Puts out.old (flaw_said path.now flaw) out.new }
 {
+    let Some(flaw) = flaw else {
+        return;
+    };
     match flaw {
         Flaw::NoLine => out.text(b"no line, where each is a rule of 2 to 16 cells"),
         Flaw::NotNumber { line, cell } => put_bad_cell(line, cell, out),
@@ -133,12 +136,14 @@ pub fn put_named(program: &[u8], path: &[u8], out: &mut Out)
     out.text(path);
 }
 
-// Puts the line that a program says of a flaw in a file.
-pub fn put_complaint(flaw: Flaw, program: &[u8], path: &[u8], out: &mut Out)
-    ensures { Puts out.old (complaint_said program.now path.now flaw) out.new }
+// Puts the line that a program says of a flaw in a file, at the front of the run, and answers the place after it.
+pub fn put_complaint(flaw: Option<Flaw>, program: &[u8], path: &[u8], out: &mut [u8]) -> usize
+    ensures { Put out.old 0 (complaint_said program.now path.now flaw) out.new result }
 {
-    put_named(program, path, out);
-    out.text(b": ");
-    put_flaw(flaw, path, out);
-    out.text(b"\n");
+    let mut line = Out { bytes: out, at: 0 };
+    put_named(program, path, &mut line);
+    line.text(b": ");
+    put_flaw(flaw, path, &mut line);
+    line.text(b"\n");
+    line.at
 }
