@@ -4,17 +4,15 @@
 -- Assumes nothing.
 use Prim.Native.Nat.{ℕ}
 use mathlib.Core.List.{List}
-use mathlib.Core.Path.{◌≡◌, sym, ◌∙◌}
+use mathlib.Core.Path.{◌≡◌, sym, ap, ◌∙◌}
 use Rattle.ranges.proofs.OneAnswer.{OneAnswer, OneRun}
 use Rattle.text.proofs.Determined.{place_one, bytes_one}
-use Rattle.std.specs.Prelude.{⊤, Result}
 use Rattle.std.specs.Result.{result_err}
-use Rattle.text.specs.declared.put.Out.{Out}
-use Rattle.flaws.specs.declared.flaw.Flaw.{Flaw}
 use Rattle.rulesfile.specs.declared.file.RulesSoFar.{RulesSoFar}
 use Rattle.rulesfile.proofs.Determined.{built_alike}
-use Rattle.answers.specs.Said.{PutLine}
+use Rattle.answers.specs.Said.{LineAt}
 use Rattle.answers.specs.Opened.{opened_said, OpenedWith}
+use Rattle.answers.specs.declared.open.Opened.{Opened}
 use Rattle.answers.proofs.answer.header_flaw.Kinds as header_flaw_kinds
 use Rattle.answers.proofs.answer.header_flaw.Reads as header_flaw_reads
 use Rattle.answers.proofs.answer.put_answer.Kinds as put_answer_kinds
@@ -71,30 +69,34 @@ pub put_looked_run_one : OneRun 2 put_looked_kinds.ps put_looked_kinds.r put_loo
 put_looked_run_one κs a x y e g p q = bytes_one p.puts.put q.puts.put
 
 -- ---- complain
-pub put_headers_flaws_one : OneRun 3 put_headers_flaws_kinds.ps put_headers_flaws_kinds.r put_headers_flaws_reads.Learnt (λ κs e. e.1.1.1.0.now.at)
-put_headers_flaws_one κs a x y e g p q = place_one p.put q.put
+pub put_headers_flaws_one : OneAnswer 2 put_headers_flaws_kinds.ps put_headers_flaws_kinds.r put_headers_flaws_reads.Learnt
+put_headers_flaws_one κs a x y e g p q = place_one p q
 
-pub put_headers_flaws_run_one : OneRun 3 put_headers_flaws_kinds.ps put_headers_flaws_kinds.r put_headers_flaws_reads.Learnt (λ κs e. e.1.1.1.0.now.bytes.now)
-put_headers_flaws_run_one κs a x y e g p q = bytes_one p.put q.put
+pub put_headers_flaws_run_one : OneRun 2 put_headers_flaws_kinds.ps put_headers_flaws_kinds.r put_headers_flaws_reads.Learnt (λ κs e. e.1.1.1.0.now)
+put_headers_flaws_run_one κs a x y e g p q = bytes_one p q
 
 -- ---- open
-module _ (rules : RulesSoFar) (list table : List ℕ) (old : Out) {r s : Result ⊤ Flaw} {built built' : List ℕ} {new new' : Out} (p : OpenedWith rules list table old r built new)
-    (q : OpenedWith rules list table old s built' new') where
-  flaw_alike : result_err r ≡ result_err s
+module _ (rules : RulesSoFar) (list table out : List ℕ) {r s : Opened} {built built' after after' : List ℕ} (p : OpenedWith rules list table out r built after)
+    (q : OpenedWith rules list table out s built' after') where
+  flaw_alike : result_err r.built ≡ result_err s.built
   flaw_alike = p.flaw ∙ sym q.flaw
 
   -- the second's line, said of the first's flaw
-  line_alike : PutLine old (opened_said (result_err r)) new'
+  line_alike : LineAt out 0 (opened_said (result_err r.built)) after' s.at
   line_alike = rw flaw_alike q.prints
 
-pub open_rules_one : OneAnswer 4 open_rules_kinds.ps open_rules_kinds.r open_rules_reads.Learnt
-open_rules_one κs a x y e g p q = built_alike x y (flaw_alike _ _ _ _ p q)
+  place_alike : r.at ≡ s.at
+  place_alike = place_one p.prints.put line_alike.put
 
-pub open_rules_table_one : OneRun 4 open_rules_kinds.ps open_rules_kinds.r open_rules_reads.Learnt (λ κs e. e.1.1.0.now)
+  opened_alike : r ≡ s
+  opened_alike =
+      ap (λ b. record { built = b; at = r.at }) (built_alike r.built s.built flaw_alike) ∙ ap (λ k. record { built = s.built; at = k }) place_alike
+
+pub open_rules_one : OneAnswer 3 open_rules_kinds.ps open_rules_kinds.r open_rules_reads.Learnt
+open_rules_one κs a x y e g p q = opened_alike _ _ _ _ p q
+
+pub open_rules_table_one : OneRun 3 open_rules_kinds.ps open_rules_kinds.r open_rules_reads.Learnt (λ κs e. e.1.1.0.now)
 open_rules_table_one κs a x y e g p q = p.builds ∙ sym q.builds
 
-pub open_rules_place_one : OneRun 4 open_rules_kinds.ps open_rules_kinds.r open_rules_reads.Learnt (λ κs e. e.1.1.1.0.now.at)
-open_rules_place_one κs a x y e g p q = place_one p.prints.puts.put (line_alike _ _ _ _ p q).puts.put
-
-pub open_rules_run_one : OneRun 4 open_rules_kinds.ps open_rules_kinds.r open_rules_reads.Learnt (λ κs e. e.1.1.1.0.now.bytes.now)
-open_rules_run_one κs a x y e g p q = bytes_one p.prints.puts.put (line_alike _ _ _ _ p q).puts.put
+pub open_rules_run_one : OneRun 3 open_rules_kinds.ps open_rules_kinds.r open_rules_reads.Learnt (λ κs e. e.1.1.1.0.now)
+open_rules_run_one κs a x y e g p q = bytes_one p.prints.put (line_alike _ _ _ _ p q).put

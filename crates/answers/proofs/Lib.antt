@@ -1,6 +1,12 @@
+-- Fronts: of a run whose place a function makes itself.
 -- Lengths: no line that is printed is longer than `line_most` bytes.
+-- Complaints: of what is said where no line was refused.
+-- Counts: of the count of header lines.
 -- Counting: that lines are counted as they are defined.
 -- Determined: every contract allows one result alone.
+pub mod Fronts
 pub mod Lengths
+pub mod Complaints
+pub mod Counts
 pub mod Counting
 pub mod Determined

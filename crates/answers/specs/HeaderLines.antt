@@ -50,13 +50,13 @@ abbrev pub refused_in : ℕ → List (List ℕ) → ℕ
 refused_in d [] = 0
 refused_in d (l ∷ ls) = pick (is_some (flaw_on d l)) (suc (refused_in d ls)) (refused_in d ls)
 
-abbrev pub refused_lines : ℕ → ℕ → HeaderFlaw → RefusedLines
+abbrev pub refused_lines : ℕ → ℕ → Option HeaderFlaw → RefusedLines
 refused_lines count first flaw = record { count = count; first = first; flaw = flaw }
 
 -- line i, before so many more that are refused
 abbrev pub refused_from : Option HeaderFlaw → ℕ → ℕ → Option RefusedLines → Option RefusedLines
 refused_from None i more rest = rest
-refused_from (Some flaw) i more rest = Some (refused_lines (1 + more) i flaw)
+refused_from (Some flaw) i more rest = Some (refused_lines (1 + more) i (Some flaw))
 
 -- of lines after i lines: how many are refused, the number of the first, counted from 1, and why it is
 abbrev pub refused_among : ℕ → ℕ → List (List ℕ) → Option RefusedLines

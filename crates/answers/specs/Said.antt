@@ -5,7 +5,7 @@ use Rattle.ranges.specs.Refusals.{number_of}
 use Rattle.ranges.specs.Refusals.{Refusal}
 use Rattle.text.specs.Texts.{bytes}
 use Rattle.text.specs.Decimals.{decimal_of}
-use Rattle.text.specs.Puts.{Puts}
+use Rattle.text.specs.Puts.{Put, Puts}
 use Rattle.text.specs.declared.put.Out.{Out}
 use Rattle.lookup.specs.declared.lookup.Match.{Match}
 use Rattle.lookup.specs.declared.lookup.Looked.{Looked}
@@ -36,7 +36,12 @@ looked_said (Err x) = refused_said (number_of x.cause)
 abbrev pub line_most : ℕ
 line_most = 64
 
--- a line, put into a run at its place
+-- a line, put from a place of a run on
+pub record LineAt (out : List ℕ) (at : ℕ) (line : List ℕ) (after : List ℕ) (next : ℕ) : Type 0 where
+  pub put : Put out at line after next
+  pub short : length line ≤ line_most
+
+-- the same of a run that is lent with its place
 pub record PutLine (old : Out) (line : List ℕ) (new : Out) : Type 0 where
   pub puts : Puts old line new
   pub short : length line ≤ line_most

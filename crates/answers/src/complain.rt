@@ -1,6 +1,6 @@
 // What is said on standard error of the headers, for a person: which file, how many lines of it are refused, which is the
 // first, and what is wrong there.
-ghost use Rattle.text.specs.Puts.{Puts};
+ghost use Rattle.text.specs.Puts.{Put, Puts};
 ghost use Rattle.answers.specs.Complaints.{counted_said, why_said, lines_refused_said, headers_complaint};
 
 use crate::answer::HeaderFlaw;
@@ -16,10 +16,13 @@ fn put_counted(n: u64, word: &[u8], out: &mut Out)
     put_plural(n, word, out);
 }
 
-// Puts why a header line was refused, for rules of d fields.
-fn put_why(flaw: HeaderFlaw, d: usize, path: &[u8], out: &mut Out)
+// Puts why a header line was refused, for rules of d fields; nothing where it was not.
+fn put_why(flaw: Option<HeaderFlaw>, d: usize, path: &[u8], out: &mut Out)
     ensures { Puts out.old (why_said path.now d flaw) out.new }
 {
+    let Some(flaw) = flaw else {
+        return;
+    };
     match flaw {
         HeaderFlaw::NotNumber { cell } => {
             out.text(b", ");
@@ -39,26 +42,30 @@ fn put_why(flaw: HeaderFlaw, d: usize, path: &[u8], out: &mut Out)
 }
 
 // Puts how many header lines were refused, and of the first which it is and why.
-fn put_refused_lines(refused: Option<RefusedLines>, d: usize, path: &[u8], out: &mut Out)
-    ensures { Puts out.old (lines_refused_said path.now d refused) out.new }
+fn put_refused_lines(headers: HeadersSoFar, d: usize, path: &[u8], out: &mut Out)
+    ensures { Puts out.old (lines_refused_said path.now d headers.refused) out.new }
 {
-    match refused {
-        None => out.text(b"0 lines refused, the first is line 0"),
-        Some(lines) => {
-            put_counted(lines.count, b" line", out);
-            out.text(b" refused, the first is line ");
-            out.number(lines.first);
-            put_why(lines.flaw, d, path, out);
-        }
-    }
+    let none = RefusedLines {
+        count: 0,
+        first: 0,
+        flaw: None,
+    };
+    let refused = headers.refused.unwrap_or(none);
+    put_counted(refused.count, b" line", out);
+    out.text(b" refused, the first is line ");
+    out.number(refused.first);
+    put_why(refused.flaw, d, path, out);
 }
 
-// Puts the line that says how many header lines were refused, and of the first which it is and why.
-pub fn put_headers_flaws(headers: HeadersSoFar, d: usize, path: &[u8], out: &mut Out)
-    ensures { Puts out.old (headers_complaint path.now d headers) out.new }
+// Puts the line that says how many header lines were refused, and of the first which it is and why, at the front of the
+// run, and answers the place after it.
+pub fn put_headers_flaws(headers: HeadersSoFar, d: usize, path: &[u8], out: &mut [u8]) -> usize
+    ensures { Put out.old 0 (headers_complaint path.now d headers) out.new result }
 {
-    put_named(b"gateway", path, out);
-    out.text(b": ");
-    put_refused_lines(headers.refused, d, path, out);
-    out.text(b"\n");
+    let mut line = Out { bytes: out, at: 0 };
+    put_named(b"gateway", path, &mut line);
+    line.text(b": ");
+    put_refused_lines(headers, d, path, &mut line);
+    line.text(b"\n");
+    line.at
 }

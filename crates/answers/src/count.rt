@@ -9,7 +9,7 @@ use crate::answer::HeaderFlaw;
 pub struct RefusedLines {
     pub count: u64,
     pub first: u64,
-    pub flaw: HeaderFlaw,
+    pub flaw: Option<HeaderFlaw>,
 }
 
 // What the lines that have ended come to: how many they are, and those that were refused, if any was.
@@ -29,23 +29,24 @@ pub fn count_start() -> HeadersSoFar
     }
 }
 
-// Counts a line that has ended, with its flaw. A count stays where a word ends.
+// Counts a line that has ended, with its flaw. Where 0 lines were refused before, this is the first; a count stays where a
+// word ends.
 pub fn counted(headers: HeadersSoFar, flaw: Option<HeaderFlaw>) -> HeadersSoFar
     ensures { result ≡ counted_by headers flaw }
 {
     let lines = headers.lines.saturating_add(1);
-    let Some(flaw) = flaw else {
+    let Some(why) = flaw else {
         return HeadersSoFar { lines, ..headers };
     };
     let refused = match headers.refused {
-        None => RefusedLines {
-            count: 1,
-            first: lines,
-            flaw,
-        },
-        Some(before) => RefusedLines {
+        Some(before) if before.count > 0 => RefusedLines {
             count: before.count.saturating_add(1),
             ..before
+        },
+        _ => RefusedLines {
+            count: 1,
+            first: lines,
+            flaw: Some(why),
         },
     };
     HeadersSoFar {

@@ -7,19 +7,23 @@ use rulesfile::file::RulesSoFar;
 use rulesfile::table::rules_table;
 use text::put::Out;
 
-// Builds the table of the rules, and puts the line rule,tests, or refused,NUMBER where they have a flaw.
-pub fn open_rules(
-    rules: RulesSoFar,
-    list: &[u32],
-    table: &mut [u16],
-    out: &mut Out,
-) -> Result<(), Flaw>
+// What the table's building came to, and the next place for output.
+#[derive(Clone, Copy)]
+pub struct Opened {
+    pub built: Result<(), Flaw>,
+    pub at: usize,
+}
+
+// Builds the table of the rules, and puts the line rule,tests, or refused,NUMBER where they have a flaw, at the front of
+// the run.
+pub fn open_rules(rules: RulesSoFar, list: &[u32], table: &mut [u16], out: &mut [u8]) -> Opened
     ensures { OpenedWith rules list.now table.old out.old result table.new out.new }
 {
     let built = rules_table(rules, list, table);
+    let mut line = Out { bytes: out, at: 0 };
     match built {
-        Ok(()) => put_head(out),
-        Err(flaw) => put_refused(flaw_number(flaw), out),
+        Ok(()) => put_head(&mut line),
+        Err(flaw) => put_refused(flaw_number(Some(flaw)), &mut line),
     }
-    built
+    Opened { built, at: line.at }
 }

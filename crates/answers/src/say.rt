@@ -1,5 +1,5 @@
 // Output lines, put into a lent run at its place. A line ends in CRLF and has at most `LINE_MOST` bytes.
-ghost use Rattle.std.specs.Prelude.{◌≤◌, length};
+ghost use Rattle.std.specs.Prelude.{◌≤◌, ◌++◌, length};
 ghost use Rattle.text.specs.Puts.{Puts};
 ghost use Rattle.answers.specs.Said.{head_said, refused_said, found_said, tests_said, looked_said, PutLine};
 
@@ -26,17 +26,6 @@ pub fn put_refused(number: u32, out: &mut Out)
     out.text(b"\r\n");
 }
 
-// Puts the rule that was found, or none; 01 prints no edge.
-fn put_found(found: Option<Match>, out: &mut Out)
-    ensures puts { Puts out.old (found_said found) out.new }
-    ensures few { length (found_said found) ≤ 20 }
-{
-    match found {
-        Some(found) => out.number(found.rule as u64),
-        None => out.text(b"none"),
-    }
-}
-
 // Puts the rest of a line after the rule: the number of tests.
 fn put_tests(tests: usize, out: &mut Out)
     ensures puts { Puts out.old (tests_said tests) out.new }
@@ -47,15 +36,28 @@ fn put_tests(tests: usize, out: &mut Out)
     out.text(b"\r\n");
 }
 
+// Puts the line of a rule that was found, or of none, and the number of tests: RULE,TESTS or none,TESTS. 01 prints no edge.
+fn put_found(found: Option<Match>, tests: usize, out: &mut Out)
+    ensures { PutLine out.old (found_said found ++ tests_said tests) out.new }
+{
+    match found {
+        Some(found) => {
+            out.number(found.rule as u64);
+            put_tests(tests, out);
+        }
+        None => {
+            out.text(b"none");
+            put_tests(tests, out);
+        }
+    }
+}
+
 // Puts the line of a lookup's answer: RULE,TESTS or none,TESTS, or the refusal.
 pub fn put_looked(looked: Result<Looked, Refusal>, out: &mut Out)
     ensures { PutLine out.old (looked_said looked) out.new }
 {
     match looked {
-        Ok(Looked { found, tests }) => {
-            put_found(found, out);
-            put_tests(tests, out);
-        }
+        Ok(Looked { found, tests }) => put_found(found, tests, out),
         Err(x) => put_refused(x.cause.number(), out),
     }
 }
