@@ -16,13 +16,10 @@ use programs::streams::Streams;
 use rulesfile::file::RulesSoFar;
 use rulesfile::table::rules_shape;
 use std::fs::{File, Files};
-use text::put::Out;
 
 // Says on standard error what is wrong with the rules.
 fn say_flaw(streams: Streams, flaw: Flaw, path: &[u8], out: &mut [u8]) {
-    let mut line = Out { bytes: out, at: 0 };
-    put_complaint(flaw, b"gateway", path, &mut line);
-    let at = line.at;
+    let at = put_complaint(Some(flaw), b"gateway", path, out);
     write_error(streams, out, at);
 }
 
@@ -31,9 +28,7 @@ fn say_refused(streams: Streams, headers: HeadersSoFar, d: usize, path: &[u8], o
     if headers.refused.is_none() {
         return;
     }
-    let mut line = Out { bytes: out, at: 0 };
-    put_headers_flaws(headers, d, path, &mut line);
-    let at = line.at;
+    let at = put_headers_flaws(headers, d, path, out);
     write_error(streams, out, at);
 }
 
@@ -83,13 +78,11 @@ fn serve_rules(
     requires { line_most ≤ length out.old }
     ensures { result ≡ true → tabled_flaw read.rules list.now table.old ≡ None }
 {
-    let mut line = Out { bytes: out, at: 0 };
-    let opened = open_rules(read.rules, list, table, &mut line);
-    let at = line.at;
-    if !write_out(streams, out, at) {
+    let opened = open_rules(read.rules, list, table, out);
+    if !write_out(streams, out, opened.at) {
         return false;
     }
-    let Err(flaw) = opened else {
+    let Err(flaw) = opened.built else {
         return serve_headers(
             files,
             streams,
