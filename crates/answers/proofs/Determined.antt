@@ -85,12 +85,12 @@ module _ (rules : RulesSoFar) (list table out : List ℕ) {r s : Opened} {built 
   line_alike : LineAt out 0 (opened_said (result_err r.built)) after' s.at
   line_alike = rw flaw_alike q.prints
 
-  place_alike : r.at ≡ s.at
-  place_alike = place_one p.prints.put line_alike.put
+  pub open_rules_place_one : r.at ≡ s.at
+  open_rules_place_one = place_one p.prints.put line_alike.put
 
   opened_alike : r ≡ s
   opened_alike =
-      ap (λ b. record { built = b; at = r.at }) (built_alike r.built s.built flaw_alike) ∙ ap (λ k. record { built = s.built; at = k }) place_alike
+      ap (λ b. record { built = b; at = r.at }) (built_alike r.built s.built flaw_alike) ∙ ap (λ k. record { built = s.built; at = k }) open_rules_place_one
 
 pub open_rules_one : OneAnswer 3 open_rules_kinds.ps open_rules_kinds.r open_rules_reads.Learnt
 open_rules_one κs a x y e g p q = opened_alike _ _ _ _ p q
