@@ -71,7 +71,8 @@ prove() { # CALLER NAME
         case $line in
         'rt: chose --jobs '*) echo "$caller: proving ${line##* } .." >&2 ;;
         'rt: waiting for '*) echo "$caller: ${line#rt: } .." >&2 ;;
-        'rattle build: nothing was built, '* | *': proved' | logic[\ =]* | 'library '* | 'statements '* | 'crate '* | 'axioms '* | 'linked '* | 'note: finished '* | *': note: large solution'* | \
+        'rattle build: nothing was built, '* | *': proved' | *': proved where its callers give what it asks' | logic[\ =]* | 'library '* | 'statements '* | 'crate '* | 'axioms '* | 'linked '* | 'note: finished '* | *': note: large solution'* | \
+            'so far: '*' functions checked'* | *': note: `cc` took no step by '* | 'note: only the first of '* | 'rt: '*': another copy of the repository is building this library'* | \
             'rt: '*': begins with what a check kept in '* | 'rt: rt check --fix-imports '* | 'rt: nothing has changed '* | 'rt: running '*) ;;
         *) said+=("$line") ;;
         esac
