@@ -3,9 +3,13 @@
 -- contract is an equation, or a record of several (`Put`, `PutLine`, `OpenedWith`).
 -- Assumes nothing.
 use Prim.Native.Nat.{ℕ}
+use denote.RattleType.{RattleType}
+use denote.Param.Laws.{Laws}
+use mir.Syntax.{Dict}
 use mathlib.Core.List.{List}
 use mathlib.Core.Path.{◌≡◌, sym, ap, ◌∙◌}
 use Rattle.ranges.proofs.OneAnswer.{OneAnswer, OneRun}
+use Rattle.ranges.specs.declared.numbered.Numbered.{Ghosts}
 use Rattle.text.proofs.Determined.{place_one, bytes_one}
 use Rattle.std.specs.Result.{result_err}
 use Rattle.rulesfile.specs.declared.file.RulesSoFar.{RulesSoFar}
@@ -62,11 +66,13 @@ put_refused_one κs a x y e g p q = place_one p.puts.put q.puts.put
 pub put_refused_run_one : OneRun 2 put_refused_kinds.ps put_refused_kinds.r put_refused_reads.Learnt (λ κs e. e.1.0.now.bytes.now)
 put_refused_run_one κs a x y e g p q = bytes_one p.puts.put q.puts.put
 
-pub put_looked_one : OneRun 2 put_looked_kinds.ps put_looked_kinds.r put_looked_reads.Learnt (λ κs e. e.1.0.now.at)
-put_looked_one κs a x y e g p q = place_one p.puts.put q.puts.put
+-- of an answer that may be refused, for whatever type names what it is refused by and whatever number is said of it
+module _ (C : RattleType) (laws : Laws C) (number : Ghosts C.Denot) (calls : Dict) where
+  pub put_looked_one : OneRun 3 (put_looked_kinds.ps C laws) (put_looked_kinds.r C laws) (put_looked_reads.Learnt C laws number calls) (λ κs e. e.1.0.now.at)
+  put_looked_one κs a x y e g p q = place_one p.puts.put q.puts.put
 
-pub put_looked_run_one : OneRun 2 put_looked_kinds.ps put_looked_kinds.r put_looked_reads.Learnt (λ κs e. e.1.0.now.bytes.now)
-put_looked_run_one κs a x y e g p q = bytes_one p.puts.put q.puts.put
+  pub put_looked_run_one : OneRun 3 (put_looked_kinds.ps C laws) (put_looked_kinds.r C laws) (put_looked_reads.Learnt C laws number calls) (λ κs e. e.1.0.now.bytes.now)
+  put_looked_run_one κs a x y e g p q = bytes_one p.puts.put q.puts.put
 
 -- ---- complain
 pub put_headers_flaws_one : OneAnswer 2 put_headers_flaws_kinds.ps put_headers_flaws_kinds.r put_headers_flaws_reads.Learnt

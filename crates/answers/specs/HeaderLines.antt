@@ -22,7 +22,7 @@ header_flaw d feed (Some bad) k = Some (pick feed LoneFeed (NotNumber bad))
 
 -- what is printed for a line with such a flaw that makes this header
 abbrev pub answer_said : Rules → List ℕ → Option HeaderFlaw → List ℕ → List ℕ
-answer_said R T None h = looked_said (lookup_of R T h)
+answer_said R T None h = looked_said number_of (lookup_of R T h)
 answer_said R T (Some flaw) h = refused_said (number_of BadLine)
 
 -- ---- a whole line
@@ -33,7 +33,7 @@ header_of cells = take header_length (values_of cells ++ zeros)
 -- what is printed for it: a line that is bad or hasn't d cells prints refused,8
 abbrev pub line_said : Rules → List ℕ → List ℕ → List ℕ
 line_said R T line =
-    pick (all_numbers (cells_of line) and eqb (length (cells_of line)) (fields_of R)) (looked_said (lookup_of R T (header_of (cells_of line)))) (refused_said (number_of BadLine))
+    pick (all_numbers (cells_of line) and eqb (length (cells_of line)) (fields_of R)) (looked_said number_of (lookup_of R T (header_of (cells_of line)))) (refused_said (number_of BadLine))
 
 -- what is printed for lines one after the other
 abbrev pub lines_said : Rules → List ℕ → List (List ℕ) → List ℕ

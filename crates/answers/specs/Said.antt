@@ -1,8 +1,7 @@
 -- 01, The program: the lines that are printed, each ended by CRLF.
 -- Assumes nothing: these are definitions.
 use Rattle.std.specs.Prelude.{ℕ, ◌≤◌, List, ◌++◌, length, Option, None, Some, Result, Ok, Err}
-use Rattle.ranges.specs.Refusals.{number_of}
-use Rattle.ranges.specs.Refusals.{Refusal}
+use Rattle.ranges.specs.declared.refusal.Refusal.{Refusal}
 use Rattle.text.specs.Texts.{bytes}
 use Rattle.text.specs.Decimals.{decimal_of}
 use Rattle.text.specs.Puts.{Put, Puts}
@@ -27,10 +26,10 @@ found_said None = bytes "none"
 abbrev pub tests_said : ℕ → List ℕ
 tests_said tests = bytes "," ++ decimal_of tests ++ bytes "\r\n"
 
--- the line of a lookup's answer
-abbrev pub looked_said : Result Looked Refusal → List ℕ
-looked_said (Ok x) = found_said x.found ++ tests_said x.tests
-looked_said (Err x) = refused_said (number_of x.cause)
+-- the line of a lookup's answer, where number says the number of what refuses it: `number_of` of a row's cause
+abbrev pub looked_said : {C : Type 0} → (C → ℕ) → Result Looked (Refusal C) → List ℕ
+looked_said number (Ok x) = found_said x.found ++ tests_said x.tests
+looked_said number (Err x) = refused_said (number x.cause)
 
 -- the most bytes of a line, its CRLF counted
 abbrev pub line_most : ℕ

@@ -83,10 +83,10 @@ module _ (R : Rules) (T : List ℕ) (narrow : fields_of R ≤ header_length) whe
     where
       go : (b : Option ℕ) → bad_in 0 (cells_of l) ≡ b → (t : Bool) → eqb (many_more 0 (cells_of l)) d ≡ t
           → answer_said R T (header_flaw d (feed_in l) b (many_more 0 (cells_of l))) (whole_line 0 zeros l).run
-          ≡ pick (is_none b and t) (looked_said (lookup_of R T (header_of (cells_of l)))) (refused_said (number_of BadLine))
+          ≡ pick (is_none b and t) (looked_said number_of (lookup_of R T (header_of (cells_of l)))) (refused_said (number_of BadLine))
       go None p true q =
           let count = eqb-true (length (cells_of l)) d (sym (many_same (cells_of l) d small) ∙ q) in
-          rw q (ap (λ h. looked_said (lookup_of R T h)) (run_is (cells_of l) (sym (bad-none 0 (cells_of l)) ∙ ap is_none p) (omega arith)))
+          rw q (ap (λ h. looked_said number_of (lookup_of R T h)) (run_is (cells_of l) (sym (bad-none 0 (cells_of l)) ∙ ap is_none p) (omega arith)))
       go None p false q = rw q
       go (Some bad) p t q = refl
 

@@ -25,7 +25,7 @@ use lib.Dec.{eqb}
 use lib.ListN.{length}
 use Rattle.std.specs.Prelude.{Option, None, Some, is_none}
 use Rattle.ranges.specs.Numbers.{pick}
-use Rattle.ranges.specs.Refusals.{none, number_in}
+use Rattle.ranges.specs.Refusals.{none, number_of, number_in}
 use Rattle.ranges.proofs.InARow.{by_number}
 use Rattle.lists.specs.Limits.{most_fields, most_numbers}
 use Rattle.lists.specs.Rules.{Rules, fields_of}
@@ -152,8 +152,8 @@ rules_without_headers rb none = answers_all rb [] none ∙ append-nil head_said
 pub line_first_match : (ls : List (List ℕ)) → rules_fault ls ≡ 0 → (l : List ℕ) → all_numbers (cells_of l) ≡ true → length (cells_of l) ≡ fields_of (rules_from ls)
     → let R = rules_from ls in
     let h = header_of (cells_of l) in
-    line_said R (built_table R) l ≡ looked_said (answer_of R h (first_match R h) (tests_in (lookup_of R (built_table R) h)))
+    line_said R (built_table R) l ≡ looked_said number_of (answer_of R h (first_match R h) (tests_in (lookup_of R (built_table R) h)))
 line_first_match ls none l good count =
     let R = rules_from ls in
     let h = header_of (cells_of l) in
-    rw (good, eq-eqb (length (cells_of l)) (fields_of R) count) (ap looked_said (built_lookup R (stands_checked ls none) h))
+    rw (good, eq-eqb (length (cells_of l)) (fields_of R) count) (ap (looked_said number_of) (built_lookup R (stands_checked ls none) h))

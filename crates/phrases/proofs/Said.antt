@@ -1,6 +1,7 @@
 -- Laws of answers as text (`specs/Said.antt`): numbers put one by one, each after a blank, as `put_all` puts those of a run and
 -- `put_table` those of a table.
 --     put_more      where the first i are put, one more
+--     refusal_put   a refusal is put with the number that is said of it
 -- Assumes nothing.
 use Prim.Native.Nat.{ℕ, ◌+◌, ◌*◌, ◌<◌}
 use mathlib.Core.List.{List, [], ◌∷◌, ◌++◌, append_assoc, append-nil}
@@ -10,7 +11,9 @@ use native.Mathlib.Numerals.{add-one}
 use lib.ListN.{length, get_or, take}
 use lib.Seq.{take-suc}
 use Rattle.text.specs.declared.put.Out.{Out}
-use Rattle.phrases.specs.Said.{spaced, all_spaced}
+use Rattle.text.specs.Texts.{bytes}
+use Rattle.ranges.specs.declared.refusal.Refusal.{Refusal}
+use Rattle.phrases.specs.Said.{spaced, all_spaced, refusal_said}
 use Rattle.phrases.specs.Few.{PutFew}
 use Rattle.phrases.proofs.Few.{few_then, few_more}
 
@@ -26,3 +29,8 @@ all_more xs i lt =
 pub put_more : (ns : List ℕ) (i : ℕ) {o p q : Out} → i < length ns → PutFew (21 * i) o (all_spaced (take i ns)) p → PutFew 21 p (spaced (get_or ns i 0)) q
     → PutFew (21 * (i + 1)) o (all_spaced (take (i + 1) ns)) q
 put_more ns i lt first more = rw (all_more ns i lt) (few_more (omega arith) (few_then first more))
+
+-- the number of a refusal and the first of its place, and then the second, are the refusal, where that number is said of it
+pub refusal_put : {C : Type 0} (number : C → ℕ) (x : Refusal C) {n : ℕ} {o p q : Out} → PutFew 49 o (bytes "refused" ++ spaced n ++ spaced x.at) p
+    → PutFew 21 p (spaced x.then) q → n ≡ number x.cause → PutFew 70 o (refusal_said number x) q
+refusal_put number x first then said = rw (← said) (few_more (omega arith) (few_then first then))

@@ -6,6 +6,7 @@ ghost use Rattle.phrases.specs.Few.{PutFew, PutAll};
 ghost use Rattle.phrases.specs.Said.{spaced, refusal_said, count_said, bounds_said, match_said, pair_said, edge_said, rule_said, found_said, spot_said, verdict_said, part_said};
 
 use lookup::lookup::Looked;
+use ranges::numbered::Numbered;
 use ranges::prefix::Bounds;
 use ranges::refusal::Refusal;
 use ranges::spot::Spot;
@@ -63,16 +64,16 @@ fn put_two(text: &[u8], m: u64, n: u64, out: &mut Out)
 }
 
 // Puts a refusal: its number and its place of two numbers.
-pub fn put_refused(x: Refusal, out: &mut Out)
-    ensures { PutFew 70 out.old (refusal_said x) out.new }
+pub fn put_refused<C: Numbered>(x: Refusal<C>, out: &mut Out)
+    ensures { PutFew 70 out.old (refusal_said C.its_number x) out.new }
 {
-    put_two(b"refused", x.cause.number() as u64, x.at as u64, out);
+    put_two(b"refused", x.cause.its_number() as u64, x.at as u64, out);
     put_spaced(x.then as u64, out);
 }
 
 // Puts what is counted, or the refusal.
-pub fn put_count(count: Result<usize, Refusal>, out: &mut Out)
-    ensures { PutFew 70 out.old (count_said count) out.new }
+pub fn put_count<C: Numbered>(count: Result<usize, Refusal<C>>, out: &mut Out)
+    ensures { PutFew 70 out.old (count_said C.its_number count) out.new }
 {
     match count {
         Ok(k) => put_one(b"ok", k as u64, out),
@@ -81,8 +82,8 @@ pub fn put_count(count: Result<usize, Refusal>, out: &mut Out)
 }
 
 // Puts a range's low and high end, or the refusal.
-pub fn put_bounds(bounds: Result<Bounds, Refusal>, out: &mut Out)
-    ensures { PutFew 70 out.old (bounds_said bounds) out.new }
+pub fn put_bounds<C: Numbered>(bounds: Result<Bounds, Refusal<C>>, out: &mut Out)
+    ensures { PutFew 70 out.old (bounds_said C.its_number bounds) out.new }
 {
     match bounds {
         Ok(b) => put_two(b"ok", b.low as u64, b.high as u64, out),
@@ -91,8 +92,8 @@ pub fn put_bounds(bounds: Result<Bounds, Refusal>, out: &mut Out)
 }
 
 // Puts the first match, or none, or the refusal.
-pub fn put_match(found: Result<Option<usize>, Refusal>, out: &mut Out)
-    ensures { PutFew 70 out.old (match_said found) out.new }
+pub fn put_match<C: Numbered>(found: Result<Option<usize>, Refusal<C>>, out: &mut Out)
+    ensures { PutFew 70 out.old (match_said C.its_number found) out.new }
 {
     match found {
         Ok(Some(i)) => put_one(b"ok", i as u64, out),
@@ -102,8 +103,8 @@ pub fn put_match(found: Result<Option<usize>, Refusal>, out: &mut Out)
 }
 
 // Puts yes, or no and the pair of rules, or the refusal.
-pub fn put_pair(pair: Result<Option<(usize, usize)>, Refusal>, out: &mut Out)
-    ensures { PutFew 70 out.old (pair_said pair) out.new }
+pub fn put_pair<C: Numbered>(pair: Result<Option<(usize, usize)>, Refusal<C>>, out: &mut Out)
+    ensures { PutFew 70 out.old (pair_said C.its_number pair) out.new }
 {
     match pair {
         Ok(None) => out.text(b"ok yes"),
@@ -140,8 +141,8 @@ fn put_rule(looked: Looked, out: &mut Out)
 }
 
 // Puts the same, or the refusal.
-pub fn put_looked(looked: Result<Looked, Refusal>, out: &mut Out)
-    ensures { PutFew 70 out.old (found_said looked) out.new }
+pub fn put_looked<C: Numbered>(looked: Result<Looked, Refusal<C>>, out: &mut Out)
+    ensures { PutFew 70 out.old (found_said C.its_number looked) out.new }
 {
     match looked {
         Ok(looked) => put_rule(looked, out),
@@ -164,8 +165,8 @@ pub fn put_spot(spot: Spot, out: &mut Out)
 }
 
 // Puts yes or no, or the refusal.
-pub fn put_verdict(verdict: Result<bool, Refusal>, out: &mut Out)
-    ensures { PutFew 70 out.old (verdict_said verdict) out.new }
+pub fn put_verdict<C: Numbered>(verdict: Result<bool, Refusal<C>>, out: &mut Out)
+    ensures { PutFew 70 out.old (verdict_said C.its_number verdict) out.new }
 {
     match verdict {
         Ok(true) => out.text(b"ok yes"),
@@ -175,8 +176,8 @@ pub fn put_verdict(verdict: Result<bool, Refusal>, out: &mut Out)
 }
 
 // Puts a partition's size and its smallest rule number, or the refusal.
-pub fn put_part(part: Result<Part, Refusal>, out: &mut Out)
-    ensures { PutFew 70 out.old (part_said part) out.new }
+pub fn put_part<C: Numbered>(part: Result<Part, Refusal<C>>, out: &mut Out)
+    ensures { PutFew 70 out.old (part_said C.its_number part) out.new }
 {
     match part {
         Ok(p) => put_two(b"ok", p.size as u64, p.least as u64, out),

@@ -8,6 +8,10 @@ use denote.Param.Laws.{Laws}
 use Rattle.ranges.proofs.OneAnswer.{OneAnswer, OneRun}
 use Rattle.ranges.proofs.refusal.Cause.number.Kinds as number_kinds
 use Rattle.ranges.proofs.refusal.Cause.number.Reads as number_reads
+use Rattle.ranges.proofs.refusal.CauseNumbered.its_number.Kinds as cause_its_number_kinds
+use Rattle.ranges.proofs.refusal.CauseNumbered.its_number.Reads as cause_its_number_reads
+use Rattle.ranges.proofs.numbered.U32Numbered.its_number.Kinds as its_number_kinds
+use Rattle.ranges.proofs.numbered.U32Numbered.its_number.Reads as its_number_reads
 use Rattle.ranges.proofs.refusal.refuse.Kinds as refuse_kinds
 use Rattle.ranges.proofs.refusal.refuse.Reads as refuse_reads
 use Rattle.ranges.proofs.refusal.refuse_number.Kinds as refuse_number_kinds
@@ -39,6 +43,12 @@ use Rattle.ranges.proofs.expand.range_to_prefixes.Reads as range_to_prefixes_rea
 
 pub cause_number_one : OneAnswer 0 number_kinds.ps number_kinds.r number_reads.Learnt
 cause_number_one κs a x y e g p q = p ∙ sym q
+
+pub cause_its_number_one : OneAnswer 0 cause_its_number_kinds.ps cause_its_number_kinds.r cause_its_number_reads.Learnt
+cause_its_number_one κs a x y e g p q = p ∙ sym q
+
+pub its_number_one : OneAnswer 0 its_number_kinds.ps its_number_kinds.r its_number_reads.Learnt
+its_number_one κs a x y e g p q = p ∙ sym q
 
 -- for whatever type names the cause, u32 and `Cause` among them
 pub refuse_one : (C : RattleType) (laws : Laws C) → OneAnswer 1 (refuse_kinds.ps C laws) (refuse_kinds.r C laws) (refuse_reads.Learnt C laws)

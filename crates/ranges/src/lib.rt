@@ -14,6 +14,7 @@
 #![tactic(auto)]
 
 pub mod expand;
+pub mod numbered;
 pub mod prefix;
 pub mod refusal;
 pub mod side;

@@ -2,6 +2,8 @@
 ghost use Rattle.std.specs.Prelude.{◌≡◌};
 ghost use Rattle.ranges.specs.Refusals.{number_of, refusing};
 
+use crate::numbered::Numbered;
+
 // Why a call is refused, each by its row's number. 13 and 14 are W1's.
 #[derive(Clone, Copy, PartialEq, Eq)]
 pub enum Cause {
@@ -45,6 +47,15 @@ impl Cause {
         ensures { result ≡ number_of self }
     {
         self as u32
+    }
+}
+
+// Of a cause its row's number is said.
+impl Numbered for Cause {
+    ghost its_number = { number_of };
+
+    fn its_number(self) -> u32 {
+        self.number()
     }
 }
 

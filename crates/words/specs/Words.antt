@@ -3,6 +3,7 @@
 -- Assumes nothing: these are definitions.
 use Rattle.std.specs.Prelude.{ℕ, ◌+◌, List, ◌++◌, Bool, length, get_or, take, drop, leb, eqb}
 use Rattle.ranges.specs.Numbers.{pick, ◌and◌}
+use Rattle.ranges.specs.Refusals.{number_of}
 use Rattle.ranges.specs.Spots.{spot_of}
 use Rattle.ranges.specs.Sides.{past_of}
 use Rattle.ranges.specs.Prefixes.{bounds_of}
@@ -32,20 +33,20 @@ bad_said = bytes "bad"
 
 -- check D LIST
 abbrev pub check_said : ℕ → List ℕ → List ℕ
-check_said dates ns = on_end (list_end ns 0) (λ e. count_said (check_of (rules_to dates e ns))) bad_said
+check_said dates ns = on_end (list_end ns 0) (λ e. count_said number_of (check_of (rules_to dates e ns))) bad_said
 
 -- scan D LIST HEADER
 abbrev pub scan_said : ℕ → List ℕ → List ℕ
-scan_said dates ns = on_end (list_end ns header_length) (λ e. match_said (scan_of (rules_to dates e ns) (header_at e ns))) bad_said
+scan_said dates ns = on_end (list_end ns header_length) (λ e. match_said number_of (scan_of (rules_to dates e ns) (header_at e ns))) bad_said
 
 -- independent D LIST
 abbrev pub independent_said : ℕ → List ℕ → List ℕ
-independent_said dates ns = on_end (list_end ns 0) (λ e. pair_said (independence_of (rules_to dates e ns))) bad_said
+independent_said dates ns = on_end (list_end ns 0) (λ e. pair_said number_of (independence_of (rules_to dates e ns))) bad_said
 
 -- ---- choose D LIST RUN
 -- ok B or the refusal, and then the run's numbers afterwards
 abbrev pub chosen_said : Rules → List ℕ → List ℕ
-chosen_said R run = count_said (choose_of R run) ++ bytes " run" ++ all_spaced (chosenAfter R run)
+chosen_said R run = count_said number_of (choose_of R run) ++ bytes " run" ++ all_spaced (chosenAfter R run)
 
 -- the list ends at place e
 abbrev pub choose_from : ℕ → List ℕ → ℕ → List ℕ
@@ -57,7 +58,7 @@ choose_said dates ns = on_end (run_end list_most ns 1) (choose_from dates ns) ba
 -- ---- layout D LIST RUN TABLE
 -- ok B or the refusal, and then the table's numbers afterwards
 abbrev pub laid_said : Rules → List ℕ → List ℕ → List ℕ
-laid_said R run T = count_said (lay_out_of R run T) ++ bytes " table" ++ all_spaced (laid_after R run T)
+laid_said R run T = count_said number_of (lay_out_of R run T) ++ bytes " table" ++ all_spaced (laid_after R run T)
 
 -- the list ends at place e, and the run at place t
 abbrev pub layout_after : ℕ → List ℕ → ℕ → ℕ → List ℕ
@@ -84,16 +85,16 @@ following Report = 1
 
 -- ok B or the refusal, and then the table's numbers afterwards
 abbrev pub build_said : Rules → List ℕ → List ℕ
-build_said R T = count_said (build_of R T) ++ bytes " table" ++ all_spaced (table_after R T)
+build_said R T = count_said number_of (build_of R T) ++ bytes " table" ++ all_spaced (table_after R T)
 
 abbrev pub lookup_said : Rules → List ℕ → List ℕ → List ℕ
-lookup_said R T h = found_said (lookup_of R T h)
+lookup_said R T h = found_said number_of (lookup_of R T h)
 
 abbrev pub audit_said : Rules → List ℕ → List ℕ
-audit_said R T = verdict_said (audit_of R T)
+audit_said R T = verdict_said number_of (audit_of R T)
 
 abbrev pub report_said : Rules → List ℕ → ℕ → List ℕ
-report_said R T p = part_said (report_of R T p)
+report_said R T p = part_said number_of (report_of R T p)
 
 -- what is answered of a list, a table and the numbers that follow
 abbrev pub table_said : TableWord → Rules → List ℕ → List ℕ → List ℕ
@@ -119,7 +120,7 @@ side_said dates ns = pick (eqb (length ns) 5) (spot_said (spot_of (get_or ns 2 0
 
 -- ---- p2r VALUE LENGTH WIDTH
 unfoldable pub p2r_said : List ℕ → List ℕ
-p2r_said ns = pick (eqb (length ns) 3) (bounds_said (bounds_of (get_or ns 2 0) (get_or ns 0 0) (get_or ns 1 0))) bad_said
+p2r_said ns = pick (eqb (length ns) 3) (bounds_said number_of (bounds_of (get_or ns 2 0) (get_or ns 0 0) (get_or ns 1 0))) bad_said
 
 -- ---- r2p LOW HIGH WIDTH RUN, the run's length and numbers from place 3 on
 -- the numbers are as the word wants them
@@ -127,7 +128,7 @@ unfoldable pub r2p_stands : List ℕ → Bool
 r2p_stands ns = leb 4 (length ns) and leb (get_or ns 3 0) run_most and eqb (length ns) (4 + get_or ns 3 0)
 
 abbrev pub expanded_said : ℕ → ℕ → ℕ → List ℕ → List ℕ
-expanded_said width low high run = count_said (expand_of width low high run) ++ bytes " run" ++ all_spaced (run_after width low high run)
+expanded_said width low high run = count_said number_of (expand_of width low high run) ++ bytes " run" ++ all_spaced (run_after width low high run)
 
 abbrev pub r2p_said : List ℕ → List ℕ
 r2p_said ns = pick (r2p_stands ns) (expanded_said (get_or ns 2 0) (get_or ns 0 0) (get_or ns 1 0) (drop 4 ns)) bad_said

@@ -1,6 +1,7 @@
 // The calls of a list and a table. `given` holds the line's numbers after the word: D LIST TABLE, and what follows; `dates`
 // are the flags of D.
 ghost use Rattle.std.specs.Prelude.{◌+◌, ◌-◌, ◌*◌, ◌++◌, ◌≡◌, length};
+ghost use Rattle.ranges.specs.Refusals.{number_of};
 ghost use Rattle.lists.specs.Rules.{lent};
 ghost use Rattle.words.specs.Limits.{answer_most};
 ghost use Rattle.phrases.specs.Few.{PutFew};
@@ -35,7 +36,7 @@ pub(crate) fn put_counted(
     numbers: &[u16],
     out: &mut Out,
 )
-    ensures { PutFew (70 + length word.now + 21 * length numbers.now) out.old (count_said count ++ word.now ++ all_spaced numbers.now) out.new }
+    ensures { PutFew (70 + length word.now + 21 * length numbers.now) out.old (count_said number_of count ++ word.now ++ all_spaced numbers.now) out.new }
 {
     put_count(count, out);
     out.text(word);

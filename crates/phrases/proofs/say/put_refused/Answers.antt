@@ -1,8 +1,8 @@
--- `phrases::say::put_refused` meets its contract: the word, and three numbers after it.
+-- `phrases::say::put_refused` meets its contract: the word, and three numbers after it, of which the first is the one that is said.
 -- Assumes nothing.
 use native.Mathlib.Omega.{arith}
-use Rattle.phrases.proofs.Few.{few_then, few_more}
+use Rattle.phrases.proofs.Said.{refusal_put}
 use Rattle.phrases.proofs.say.put_refused.Goals as goal
 
 pub returns : goal.returns
-returns c = rw (← c.number.ensures) (few_more (omega arith) (few_then c.put_two.ensures c.put_spaced.ensures))
+returns g c = refusal_put g.C.Numbered.its_number c.args.x c.put_two.ensures c.put_spaced.ensures (omega (arith, c.its_number.ensures))
