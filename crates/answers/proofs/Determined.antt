@@ -9,7 +9,7 @@ use mir.Syntax.{Dict}
 use mathlib.Core.List.{List}
 use mathlib.Core.Path.{◌≡◌, sym, ap, ◌∙◌}
 use Rattle.ranges.proofs.OneAnswer.{OneAnswer, OneRun}
-use Rattle.ranges.specs.declared.numbered.Numbered.{Ghosts}
+use Rattle.ranges.specs.declared.reason.Reason.{Ghosts}
 use Rattle.text.proofs.Determined.{place_one, bytes_one}
 use Rattle.std.specs.Result.{result_err}
 use Rattle.rulesfile.specs.declared.file.RulesSoFar.{RulesSoFar}

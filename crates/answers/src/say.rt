@@ -4,7 +4,7 @@ ghost use Rattle.text.specs.Puts.{Puts};
 ghost use Rattle.answers.specs.Said.{head_said, refused_said, found_said, tests_said, looked_said, PutLine};
 
 use lookup::lookup::{Looked, Match};
-use ranges::numbered::Numbered;
+use ranges::reason::Reason;
 use ranges::refusal::Refusal;
 use text::put::Out;
 
@@ -56,7 +56,7 @@ fn put_found(found: Option<Match>, tests: usize, out: &mut Out)
 }
 
 // Puts the line of a lookup's answer: RULE,TESTS or none,TESTS, or the refusal.
-pub fn put_looked<C: Numbered>(looked: Result<Looked, Refusal<C>>, out: &mut Out)
+pub fn put_looked<C: Reason>(looked: Result<Looked, Refusal<C>>, out: &mut Out)
     ensures { PutLine out.old (looked_said C.its_number looked) out.new }
 {
     match looked {

@@ -6,7 +6,7 @@ use denote.RattleType.{RattleType}
 use denote.Param.Laws.{Laws}
 use mir.Syntax.{Dict}
 use Rattle.ranges.proofs.OneAnswer.{OneRun}
-use Rattle.ranges.specs.declared.numbered.Numbered.{Ghosts}
+use Rattle.ranges.specs.declared.reason.Reason.{Ghosts}
 use Rattle.text.proofs.Determined.{place_one, bytes_one}
 use Rattle.phrases.proofs.say.put_spaced.Kinds as put_spaced_kinds
 use Rattle.phrases.proofs.say.put_spaced.Reads as put_spaced_reads

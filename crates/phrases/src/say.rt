@@ -6,8 +6,8 @@ ghost use Rattle.phrases.specs.Few.{PutFew, PutAll};
 ghost use Rattle.phrases.specs.Said.{spaced, refusal_said, count_said, bounds_said, match_said, pair_said, edge_said, rule_said, found_said, spot_said, verdict_said, part_said};
 
 use lookup::lookup::Looked;
-use ranges::numbered::Numbered;
 use ranges::prefix::Bounds;
+use ranges::reason::Reason;
 use ranges::refusal::Refusal;
 use ranges::spot::Spot;
 use tables::report::Part;
@@ -64,7 +64,7 @@ fn put_two(text: &[u8], m: u64, n: u64, out: &mut Out)
 }
 
 // Puts a refusal: its number and its place of two numbers.
-pub fn put_refused<C: Numbered>(x: Refusal<C>, out: &mut Out)
+pub fn put_refused<C: Reason>(x: Refusal<C>, out: &mut Out)
     ensures { PutFew 70 out.old (refusal_said C.its_number x) out.new }
 {
     put_two(b"refused", x.cause.its_number() as u64, x.at as u64, out);
@@ -72,7 +72,7 @@ pub fn put_refused<C: Numbered>(x: Refusal<C>, out: &mut Out)
 }
 
 // Puts what is counted, or the refusal.
-pub fn put_count<C: Numbered>(count: Result<usize, Refusal<C>>, out: &mut Out)
+pub fn put_count<C: Reason>(count: Result<usize, Refusal<C>>, out: &mut Out)
     ensures { PutFew 70 out.old (count_said C.its_number count) out.new }
 {
     match count {
@@ -82,7 +82,7 @@ pub fn put_count<C: Numbered>(count: Result<usize, Refusal<C>>, out: &mut Out)
 }
 
 // Puts a range's low and high end, or the refusal.
-pub fn put_bounds<C: Numbered>(bounds: Result<Bounds, Refusal<C>>, out: &mut Out)
+pub fn put_bounds<C: Reason>(bounds: Result<Bounds, Refusal<C>>, out: &mut Out)
     ensures { PutFew 70 out.old (bounds_said C.its_number bounds) out.new }
 {
     match bounds {
@@ -92,7 +92,7 @@ pub fn put_bounds<C: Numbered>(bounds: Result<Bounds, Refusal<C>>, out: &mut Out
 }
 
 // Puts the first match, or none, or the refusal.
-pub fn put_match<C: Numbered>(found: Result<Option<usize>, Refusal<C>>, out: &mut Out)
+pub fn put_match<C: Reason>(found: Result<Option<usize>, Refusal<C>>, out: &mut Out)
     ensures { PutFew 70 out.old (match_said C.its_number found) out.new }
 {
     match found {
@@ -103,7 +103,7 @@ pub fn put_match<C: Numbered>(found: Result<Option<usize>, Refusal<C>>, out: &mu
 }
 
 // Puts yes, or no and the pair of rules, or the refusal.
-pub fn put_pair<C: Numbered>(pair: Result<Option<(usize, usize)>, Refusal<C>>, out: &mut Out)
+pub fn put_pair<C: Reason>(pair: Result<Option<(usize, usize)>, Refusal<C>>, out: &mut Out)
     ensures { PutFew 70 out.old (pair_said C.its_number pair) out.new }
 {
     match pair {
@@ -141,7 +141,7 @@ fn put_rule(looked: Looked, out: &mut Out)
 }
 
 // Puts the same, or the refusal.
-pub fn put_looked<C: Numbered>(looked: Result<Looked, Refusal<C>>, out: &mut Out)
+pub fn put_looked<C: Reason>(looked: Result<Looked, Refusal<C>>, out: &mut Out)
     ensures { PutFew 70 out.old (found_said C.its_number looked) out.new }
 {
     match looked {
@@ -165,7 +165,7 @@ pub fn put_spot(spot: Spot, out: &mut Out)
 }
 
 // Puts yes or no, or the refusal.
-pub fn put_verdict<C: Numbered>(verdict: Result<bool, Refusal<C>>, out: &mut Out)
+pub fn put_verdict<C: Reason>(verdict: Result<bool, Refusal<C>>, out: &mut Out)
     ensures { PutFew 70 out.old (verdict_said C.its_number verdict) out.new }
 {
     match verdict {
@@ -176,7 +176,7 @@ pub fn put_verdict<C: Numbered>(verdict: Result<bool, Refusal<C>>, out: &mut Out
 }
 
 // Puts a partition's size and its smallest rule number, or the refusal.
-pub fn put_part<C: Numbered>(part: Result<Part, Refusal<C>>, out: &mut Out)
+pub fn put_part<C: Reason>(part: Result<Part, Refusal<C>>, out: &mut Out)
     ensures { PutFew 70 out.old (part_said C.its_number part) out.new }
 {
     match part {

@@ -8,10 +8,10 @@ use denote.Param.Laws.{Laws}
 use Rattle.ranges.proofs.OneAnswer.{OneAnswer, OneRun}
 use Rattle.ranges.proofs.refusal.Cause.number.Kinds as number_kinds
 use Rattle.ranges.proofs.refusal.Cause.number.Reads as number_reads
-use Rattle.ranges.proofs.refusal.CauseNumbered.its_number.Kinds as cause_its_number_kinds
-use Rattle.ranges.proofs.refusal.CauseNumbered.its_number.Reads as cause_its_number_reads
-use Rattle.ranges.proofs.numbered.U32Numbered.its_number.Kinds as its_number_kinds
-use Rattle.ranges.proofs.numbered.U32Numbered.its_number.Reads as its_number_reads
+use Rattle.ranges.proofs.refusal.CauseReason.its_number.Kinds as cause_its_number_kinds
+use Rattle.ranges.proofs.refusal.CauseReason.its_number.Reads as cause_its_number_reads
+use Rattle.ranges.proofs.reason.U32Reason.its_number.Kinds as its_number_kinds
+use Rattle.ranges.proofs.reason.U32Reason.its_number.Reads as its_number_reads
 use Rattle.ranges.proofs.refusal.refuse.Kinds as refuse_kinds
 use Rattle.ranges.proofs.refusal.refuse.Reads as refuse_reads
 use Rattle.ranges.proofs.refusal.refuse_number.Kinds as refuse_number_kinds

@@ -14,8 +14,8 @@
 #![tactic(auto)]
 
 pub mod expand;
-pub mod numbered;
 pub mod prefix;
+pub mod reason;
 pub mod refusal;
 pub mod side;
 pub mod spot;

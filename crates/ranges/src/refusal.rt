@@ -2,7 +2,7 @@
 ghost use Rattle.std.specs.Prelude.{◌≡◌};
 ghost use Rattle.ranges.specs.Refusals.{number_of, refusing};
 
-use crate::numbered::Numbered;
+use crate::reason::Reason;
 
 // Why a call is refused, each by its row's number. 13 and 14 are W1's.
 #[derive(Clone, Copy, PartialEq, Eq)]
@@ -51,7 +51,7 @@ impl Cause {
 }
 
 // Of a cause its row's number is said.
-impl Numbered for Cause {
+impl Reason for Cause {
     ghost its_number = { number_of };
 
     fn its_number(self) -> u32 {

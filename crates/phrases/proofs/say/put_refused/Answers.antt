@@ -5,4 +5,4 @@ use Rattle.phrases.proofs.Said.{refusal_put}
 use Rattle.phrases.proofs.say.put_refused.Goals as goal
 
 pub returns : goal.returns
-returns g c = refusal_put g.C.Numbered.its_number c.args.x c.put_two.ensures c.put_spaced.ensures (omega (arith, c.its_number.ensures))
+returns g c = refusal_put g.C.Reason.its_number c.args.x c.put_two.ensures c.put_spaced.ensures (omega (arith, c.its_number.ensures))

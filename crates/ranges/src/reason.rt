@@ -1,8 +1,8 @@
-// The number that is said of what a refusal is by. For one of the rows' causes see `refusal`.
+// Why a call is refused, as a number. For the rows' causes see `refusal`.
 ghost use Rattle.std.specs.Prelude.{◌≡◌, ℕ};
 
-// What a refusal is by: one of the rows' causes, or a number, which need be no row's.
-pub trait Numbered {
+// What refuses a call: one of the rows' causes, or a number, which need be no row's.
+pub trait Reason {
     ghost its_number: { Self → ℕ };
 
     // Gives the number that is said of it.
@@ -11,7 +11,7 @@ pub trait Numbered {
 }
 
 // Of a number itself is said, whatever it is.
-impl Numbered for u32 {
+impl Reason for u32 {
     ghost its_number = { λ number. number };
 
     fn its_number(self) -> u32 {
