@@ -3,9 +3,10 @@
 --     put_then, put_byte_more     bytes after bytes; one byte more of a text
 --     put_long                    the run keeps its length
 --     put_place, put-fits         where there is room, every byte is there
+--     put_rest                    bytes put from the front of a run's rest, where the rest alone is lent
 --     puts_none, puts_then, puts_more     the same of a run that is lent with its place
 -- Assumes nothing.
-use Prim.Native.Nat.{ℕ, suc, ◌+◌, ◌≤◌, ◌<◌}
+use Prim.Native.Nat.{ℕ, zero, suc, ◌+◌, ◌≤◌, ◌<◌}
 use mathlib.Core.Bool.{Bool, true, false}
 use mathlib.Core.List.{List, [], ◌∷◌, ◌++◌}
 use mathlib.Core.Path.{◌≡◌, refl, sym, ap, ◌∙◌}
@@ -13,7 +14,7 @@ use native.Mathlib.Omega.{arith}
 use native.Mathlib.Numerals.{add-one}
 use lib.Dec.{leb}
 use borrow.Author.Tests.{leb-true, leb-false}
-use lib.ListN.{length, get_or, take, drop, set, length-append}
+use lib.ListN.{length, get_or, take, drop, set, length-append, length-drop}
 use lib.Seq.{sets, sets-eq, length-sets, set_out, take-suc}
 use Rattle.text.specs.Puts.{place_after, Put, Puts}
 use Rattle.text.specs.declared.put.Out.{Out}
@@ -49,6 +50,15 @@ sets_next l i xs ys next is = go (leb (i + length xs) (length l)) refl
         let past' : length (sets l i xs) ≤ i + length xs = omega (arith, kept) in
         sets_out (sets l i xs) next ys past ∙ sym (sets_out (sets l i xs) (i + length xs) ys past') ∙ sets_then l i xs ys
 
+sets_more : (x : ℕ) (l : List ℕ) (i : ℕ) (vs : List ℕ) → sets (x ∷ l) (suc i) vs ≡ x ∷ sets l i vs
+sets_more x l i [] = refl
+sets_more x l i (v ∷ vs) = sets_more x (set l i v) (suc i) vs
+
+sets_rest : (l : List ℕ) (i : ℕ) (vs : List ℕ) → take i l ++ sets (drop i l) 0 vs ≡ sets l i vs
+sets_rest l zero vs = refl
+sets_rest [] (suc i) vs = sets_out [] 0 vs (omega arith) ∙ sym (sets_out [] (suc i) vs (omega arith))
+sets_rest (x ∷ l) (suc i) vs = ap (λ r. x ∷ r) (sets_rest l i vs) ∙ sym (sets_more x l i vs)
+
 place_then : (n at j k next : ℕ) → next ≡ place_after n at j → place_after n next k ≡ place_after n at (j + k)
 place_then n at j k next is = omega arith
 
@@ -81,6 +91,11 @@ module _ {out : List ℕ} {at : ℕ} {xs after : List ℕ} {next : ℕ} (first :
 
   pub put-fits : at + length xs ≤ length out → after ≡ take at out ++ xs ++ drop (at + length xs) out
   put-fits fits = first.bytes ∙ sets-eq xs out at fits
+
+-- from the front of a run's rest, which alone is lent: in the run they stand from that place on
+pub put_rest : (out : List ℕ) (at : ℕ) {bs after : List ℕ} {next : ℕ} → Put (drop at out) 0 bs after next → Put out at bs (take at out ++ after) (at + next)
+put_rest out at {bs} put =
+    record { place = omega (arith, put.place, length-drop at out); bytes = ap (λ l. take at out ++ l) put.bytes ∙ sets_rest out at bs }
 
 -- one byte more of a text
 pub put_byte_more : (text : List ℕ) (i : ℕ) {out : List ℕ} {at : ℕ} {after : List ℕ} {next : ℕ} {last : List ℕ} {end : ℕ} → i < length text
