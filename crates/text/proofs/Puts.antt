@@ -50,10 +50,12 @@ sets_next l i xs ys next is = go (leb (i + length xs) (length l)) refl
         let past' : length (sets l i xs) ≤ i + length xs = omega (arith, kept) in
         sets_out (sets l i xs) next ys past ∙ sym (sets_out (sets l i xs) (i + length xs) ys past') ∙ sets_then l i xs ys
 
+-- past a first number
 sets_more : (x : ℕ) (l : List ℕ) (i : ℕ) (vs : List ℕ) → sets (x ∷ l) (suc i) vs ≡ x ∷ sets l i vs
 sets_more x l i [] = refl
 sets_more x l i (v ∷ vs) = sets_more x (set l i v) (suc i) vs
 
+-- from the front of a list's rest, or into the list from there on; past the end both change nothing
 sets_rest : (l : List ℕ) (i : ℕ) (vs : List ℕ) → take i l ++ sets (drop i l) 0 vs ≡ sets l i vs
 sets_rest l zero vs = refl
 sets_rest [] (suc i) vs = sets_out [] 0 vs (omega arith) ∙ sym (sets_out [] (suc i) vs (omega arith))
@@ -92,7 +94,8 @@ module _ {out : List ℕ} {at : ℕ} {xs after : List ℕ} {next : ℕ} (first :
   pub put-fits : at + length xs ≤ length out → after ≡ take at out ++ xs ++ drop (at + length xs) out
   put-fits fits = first.bytes ∙ sets-eq xs out at fits
 
--- from the front of a run's rest, which alone is lent: in the run they stand from that place on
+-- from the front of a run's rest, which alone is lent: in the run they stand from that place on; past the run's end the rest is empty,
+-- and nothing is put
 pub put_rest : (out : List ℕ) (at : ℕ) {bs after : List ℕ} {next : ℕ} → Put (drop at out) 0 bs after next → Put out at bs (take at out ++ after) (at + next)
 put_rest out at {bs} put =
     record { place = omega (arith, put.place, length-drop at out); bytes = ap (λ l. take at out ++ l) put.bytes ∙ sets_rest out at bs }
